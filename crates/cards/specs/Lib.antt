@@ -1,0 +1,4 @@
+pub mod Lists
+pub mod Shuffles
+pub mod Decks
+pub mod Rows
