@@ -1,8 +1,11 @@
 // Deals a row of cards through a shuffle, draw by draw. Standard input names the shuffle by its layers, and the row.
-mod text;
 
 use cards::place::Slot;
 use cards::row::Row;
+use request::text::Part;
+use request::text::Request;
+use request::text::TextFault;
+use request::text::TextFaultDisplay;
 use shuffles::bank::Bank;
 use shuffles::bank::Everywhere;
 use shuffles::bank::EverywhereBank;
@@ -19,10 +22,6 @@ use shuffles::places::PlacesShuffle;
 use shuffles::shuffle::Shuffle;
 use std::alloc::Global;
 use std::error::AnyError;
-use text::Part;
-use text::Request;
-use text::TextFault;
-use text::TextFaultDisplay;
 
 // The first cards of a row, as text.
 fn shown(heap: Global, row: &Row, n: u8) -> Result<String, AnyError> {

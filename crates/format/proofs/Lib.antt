@@ -1,0 +1,11 @@
+pub mod Listing
+pub mod Orders
+pub mod Bytes
+pub mod Entries
+pub mod Joining
+pub mod Branches
+pub mod Shuffling
+pub mod Frames
+pub mod Kinding
+pub mod Powers
+pub mod Inversion

@@ -1,0 +1,5 @@
+pub mod Form
+pub mod Kinds
+pub mod Taking
+pub mod Parts
+pub mod Views

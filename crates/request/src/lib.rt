@@ -1,0 +1,2 @@
+// The text that the program `deal` reads.
+pub mod text;

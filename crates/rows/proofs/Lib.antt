@@ -1,0 +1,14 @@
+pub mod Order
+pub mod Runs
+pub mod Totals
+pub mod Standing
+pub mod Fitted
+pub mod Draws
+pub mod Starts
+pub mod Dictionary
+pub mod Children
+pub mod Gathered
+pub mod Below
+pub mod Alike
+pub mod Wrongs
+pub mod Unpacked

@@ -1,0 +1,10 @@
+pub mod First
+pub mod Lines
+pub mod Scripts
+pub mod Products
+pub mod Verdicts
+pub mod Counting
+pub mod Actions
+pub mod Sheets
+pub mod Laws
+pub mod OwnShuffles
