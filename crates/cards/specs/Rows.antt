@@ -1,6 +1,6 @@
 -- A row of twelve cards as a list: the card in slot s stands at index s. In a row of n cards the slots from n on hold
 -- card 0.
-use Rattle.std.specs.Prelude.{◌≡◌, ℕ, zero, suc, ◌+◌, ◌-◌, ◌*◌, ◌/◌, ◌%◌, ◌^◌, ◌<◌, ◌≤◌, Bool, true, false, cond, List, [], ◌∷◌, ◌++◌, length, take, replicate, nat_lt, slice_index, slice_set}
+use Rattle.std.specs.Prelude.{◌≡◌, ℕ, suc, ◌-◌, ◌/◌, ◌%◌, ◌^◌, ◌<◌, ◌≤◌, cond, List, [], ◌∷◌, length, take, nat_lt, slice_index, slice_set}
 use Rattle.std.specs.Int.Digits.{number_from_digits}
 use Rattle.cards.specs.Lists.{table}
 

@@ -1,5 +1,5 @@
 -- A shuffle and a deck of this crate's own making.
-use Rattle.std.specs.Prelude.{ℕ, zero, suc, ◌+◌, ◌-◌, ◌*◌, ◌/◌, ◌%◌, ◌^◌, Bool, true, false, cond, ◌&&◌, ◌||◌, ◌==◌}
+use Rattle.std.specs.Prelude.{◌-◌, ◌/◌, ◌%◌, false, cond, ◌==◌}
 use Rattle.cards.specs.Shuffles.{ShuffleMeaning}
 use Rattle.cards.specs.Decks.{DeckMeaning, bit, player_code, ordered}
 

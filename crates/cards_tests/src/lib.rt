@@ -1,4 +1,6 @@
 // A shuffle and a deck of another making than the library's, and tests of every layer at its edges.
+#![tactic(auto)]
+
 ghost use Rattle.std.specs.Prelude.{◌≡◌};
 ghost use Rattle.cards_tests.specs.Own.{turned, reversed};
 ghost use Rattle.std.proofs.Common.{rules};

@@ -1,6 +1,6 @@
 -- What a certificate says of the machine's runs, and what it is for a script to be certified.
 use Rattle.std.specs.Prelude.{◌≡◌, ℕ, ◌<◌, true, ◌↔◌, Ok}
-use Rattle.std.specs.List.{AllByRecursion as All}
+use Rattle.std.specs.List.{AllByRecursion}
 use Rattle.cards.specs.Decks.{DeckMeaning}
 use Rattle.cards.specs.Shuffles.{ShuffleMeaning}
 use Rattle.protocol.specs.Machine.{Protocol, LawfulProtocol, inputs}
@@ -16,7 +16,7 @@ use Rattle.tree.specs.Walks.{playing}
 pub record Certification (p : Protocol) (bench : ℕ) : Type 0 where
   pub lines : Lines p
   pub read_off : ReadOff p bench
-  pub counted : (b : ℕ) → b < inputs p → All (Counted p b) (nodes p)
+  pub counted : (b : ℕ) → b < inputs p → AllByRecursion (Counted p b) (nodes p)
   pub classed : (c : Certificate) → certify p bench ≡ Ok c → Classed p c
   pub exactly : (c : Certificate) → certify p bench ≡ Ok c → faultless c ≡ true ↔ (Correct p × Secret p)
 

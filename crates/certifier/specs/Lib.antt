@@ -1,1 +1,2 @@
 pub mod Certification
+pub mod Promise

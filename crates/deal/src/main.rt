@@ -1,4 +1,5 @@
 // Deals a row of cards through a shuffle, draw by draw. Standard input names the shuffle by its layers, and the row.
+#![tactic(auto)]
 
 use cards::place::Slot;
 use cards::row::Row;

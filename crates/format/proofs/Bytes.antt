@@ -1,7 +1,6 @@
 -- One byte by a test, and what comes after it.
-use Rattle.std.proofs.Common.{◌≡◌, ℕ, zero, suc, ◌+◌, ◌-◌, ◌<◌, ◌≤◌, Bool, true, false, cond, List, [], ◌∷◌, ◌++◌, length, get_or, take, drop, Some, None, Option, sym, refl, ap, ◌∙◌, subst, add-one, arith}
-use Rattle.format.specs.Form.{Form, ends, byte, wrong, listed}
-use Rattle.heads.specs.Faults.{shown, sheet_fault}
+use Rattle.std.proofs.Common.{◌≡◌, ℕ, suc, ◌+◌, ◌≤◌, Bool, true, false, List, [], ◌∷◌, length, get_or, drop, Some, None, refl, ◌∙◌, add-one, arith}
+use Rattle.format.specs.Form.{Form, ends, byte, wrong}
 use Rattle.format.specs.Taking.{Passed, Broken, Faulty}
 use Rattle.heads.specs.declared.fault.SheetFault.{SheetFault}
 use Rattle.heads.specs.declared.fault.SheetFault.TheVariants.{Byte}

@@ -1,8 +1,8 @@
 -- Entries of an explicit shuffle.
-use Rattle.std.proofs.Common.{◌≡◌, ℕ, zero, suc, ◌+◌, ◌-◌, ◌<◌, ◌≤◌, Bool, true, false, cond, List, [], ◌∷◌, ◌++◌, length, get_or, take, drop, Some, None, sym, refl, ap, ◌∙◌, subst, arith}
+use Rattle.std.proofs.Common.{◌≡◌, ℕ, suc, ◌+◌, ◌-◌, ◌<◌, ◌≤◌, true, false, List, [], length, get_or, drop, arith}
 use native.Mathlib.Nat.{sub-zero}
 use Rattle.std.proofs.lemmas.Bool.Decides.{nat_tests}
-use Rattle.format.specs.Form.{Form, ends, byte, wrong, listed}
+use Rattle.format.specs.Form.{ends, listed}
 use Rattle.format.specs.Kinds.{from_to, distinct_rule, entry_form, entries_form}
 use Rattle.format.specs.Taking.{Passed, Broken, Faulty, Taken}
 use Rattle.heads.specs.declared.fault.SheetFault.{SheetFault}

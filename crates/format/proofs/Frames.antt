@@ -1,5 +1,5 @@
 -- Frames of each kind, from the promises of their parts. `tail` is what follows the kind.
-use Rattle.std.proofs.Common.{◌≡◌, ℕ, zero, suc, ◌+◌, ◌-◌, ◌*◌, ◌<◌, ◌≤◌, Bool, true, false, cond, not, ◌&&◌, ◌||◌, eqb, leb, ◌⊎◌, List, [], ◌∷◌, ◌++◌, length, get_or, take, drop, Some, None, sym, refl, ap, ◌∙◌, subst, inl, inr, arith}
+use Rattle.std.proofs.Common.{◌≡◌, ℕ, ◌+◌, ◌*◌, ◌<◌, ◌≤◌, Bool, true, false, ◌&&◌, eqb, leb, ◌⊎◌, List, [], ◌∷◌, ◌++◌, length, get_or, take, drop, None, sym, refl, ap, ◌∙◌, inl, inr, arith}
 use Rattle.std.proofs.lemmas.List.{take-append-drop, append-nil}
 use Rattle.std.proofs.lemmas.Bool.{eq-eqb, ne_eqb}
 use Rattle.std.proofs.lemmas.Bool.Decides.{nat_tests}
@@ -7,15 +7,15 @@ use Rattle.format.specs.Form.{Form, ends, byte, wrong, listed}
 use Rattle.heads.specs.declared.head.Head.{Head}
 use Rattle.heads.specs.Heads.{deck_meaning}
 use Rattle.format.specs.Kinds.{from_to, head_rule, head_form, code_rule, layout_form, distinct_rule, ascending_rule, permute_form, piled_form, cut_form, explicit_form, entries_form, turn_form, branches_form, committed_form, open_form}
-use Rattle.format.specs.Parts.{Parts, permute, cut, explicit, turn, committed, opened, cut_parts, explicit_parts, turn_parts, committed_parts, open_parts}
-use Rattle.format.specs.Taking.{Passed, Broken, Faulty, Taken}
+use Rattle.format.specs.Parts.{cut, explicit, turn, committed, opened, cut_parts, explicit_parts, turn_parts, committed_parts, open_parts}
+use Rattle.format.specs.Taking.{Broken, Faulty, Taken}
 use Rattle.format.specs.Views.{PiledRead}
 use Rattle.heads.specs.declared.head.DeckKind.{DeckKind}
 use Rattle.format.specs.declared.frame.Piled.{Piled}
 use Rattle.heads.specs.declared.fault.SheetFault.{SheetFault}
 use Rattle.heads.specs.declared.fault.SheetFault.TheVariants.{Byte}
 use Rattle.format.proofs.Bytes.{byte_right, byte_wrong}
-use Rattle.format.proofs.Joining.{Come, come_none, come_more, come_broken, come_faulty}
+use Rattle.format.proofs.Joining.{Come, come_none, come_more, come_broken}
 
 -- all of a list is taken where nothing is left
 pub taken_all : (n : ℕ) (xs list rest : List ℕ) → list ≡ take n xs → rest ≡ drop n xs → rest ≡ [] → list ≡ xs

@@ -1,7 +1,7 @@
 -- How the parts of a frame join up: as far as the bytes have been read, the frame's fault is that of the rest.
-use Rattle.std.proofs.Common.{◌≡◌, ℕ, zero, suc, ◌+◌, ◌-◌, ◌<◌, ◌≤◌, Bool, true, false, cond, List, [], ◌∷◌, ◌++◌, length, get_or, take, drop, Some, None, Result, sym, refl, ap, ◌∙◌, subst, arith, MatchResult}
+use Rattle.std.proofs.Common.{◌≡◌, ℕ, ◌+◌, List, length, None, Result, refl, ap, ◌∙◌, MatchResult}
 use Rattle.std.proofs.lemmas.Result.{MatchResult-weaker}
-use Rattle.format.specs.Form.{Form, ends, byte, wrong, listed}
+use Rattle.format.specs.Form.{Form, wrong}
 use Rattle.format.specs.Taking.{Passed, Broken, Faulty}
 use Rattle.heads.specs.declared.fault.SheetFault.{SheetFault}
 

@@ -1,8 +1,8 @@
 -- The kind of a frame from line 2 on.
-use Rattle.std.proofs.Common.{◌≡◌, ℕ, zero, suc, ◌+◌, ◌-◌, ◌<◌, ◌≤◌, Bool, true, false, cond, ◌||◌, eqb, List, [], ◌∷◌, length, get_or, drop, Some, None, sym, refl, ap, ◌∙◌, subst, arith}
-use Rattle.std.proofs.lemmas.Bool.{ne_eqb, eq-eqb}
-use Rattle.format.specs.Form.{Form, ends, byte, wrong}
-use Rattle.format.specs.Kinds.{Kind, kinds, known, form_after, one_of, form_at}
+use Rattle.std.proofs.Common.{◌≡◌, ℕ, zero, suc, ◌≤◌, true, false, List, [], ◌∷◌, length, get_or, drop, sym, refl, ◌∙◌, arith}
+use Rattle.std.proofs.lemmas.Bool.{ne_eqb}
+use Rattle.format.specs.Form.{Form, wrong}
+use Rattle.format.specs.Kinds.{kinds, known, form_after, one_of, form_at}
 use Rattle.format.specs.Parts.{Parts, parts}
 use Rattle.format.specs.Taking.{Faulty}
 use Rattle.format.specs.Views.{Read, FrameRead}

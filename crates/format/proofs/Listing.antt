@@ -1,10 +1,9 @@
 -- A list of bytes by a rule, read byte by byte.
-use Rattle.std.proofs.Common.{◌≡◌, ℕ, zero, suc, ◌+◌, ◌-◌, ◌<◌, ◌≤◌, Bool, true, false, cond, ◌⊎◌, List, [], ◌∷◌, ◌++◌, length, get_or, take, drop, Some, None, Option, sym, refl, ap, ◌∙◌, subst, inl, inr, ⊎_elim, add-zero, add-suc, add-one, arith}
+use Rattle.std.proofs.Common.{◌≡◌, ℕ, suc, ◌+◌, ◌-◌, ◌<◌, ◌≤◌, Bool, true, false, cond, List, [], length, get_or, take, drop, Some, refl, ◌∙◌, subst, add-zero, arith}
 use native.Mathlib.Nat.{sub-zero}
 use Rattle.std.proofs.lemmas.List.{take_more, drop_more, drop_all, length-drop}
-use Rattle.format.specs.Form.{Form, ends, byte, wrong, listed}
-use Rattle.heads.specs.Faults.{shown, sheet_fault}
-use Rattle.format.specs.Taking.{Taken, Passed, Broken}
+use Rattle.format.specs.Form.{Form, wrong, listed}
+use Rattle.format.specs.Taking.{Taken, Broken}
 use Rattle.heads.specs.declared.fault.SheetFault.TheVariants.{Byte}
 
 module _ (rule : List ℕ → ℕ → Bool) (from count : ℕ) (bytes : List ℕ) where

@@ -1,9 +1,9 @@
 -- m, q and the places of a shuffle's frame.
-use Rattle.std.proofs.Common.{◌≡◌, ℕ, zero, suc, ◌+◌, ◌-◌, ◌*◌, ◌<◌, ◌≤◌, Bool, true, false, cond, ◌&&◌, leb, List, [], ◌∷◌, ◌++◌, length, get_or, take, drop, Some, None, sym, refl, ap, ◌∙◌, subst, arith}
+use Rattle.std.proofs.Common.{◌≡◌, ℕ, ◌*◌, ◌≤◌, Bool, true, false, ◌&&◌, leb, List, [], ◌∷◌, length, get_or, drop, refl, ◌∙◌, arith}
 use Rattle.std.proofs.lemmas.Bool.Decides.{nat_tests}
-use Rattle.format.specs.Form.{Form, ends, byte, wrong, listed}
+use Rattle.format.specs.Form.{Form, wrong, listed}
 use Rattle.format.specs.Kinds.{from_to, distinct_rule, piled_form}
-use Rattle.format.specs.Taking.{Passed, Broken, Faulty, Taken}
+use Rattle.format.specs.Taking.{Broken, Taken}
 use Rattle.format.specs.Views.{PiledRead}
 use Rattle.format.specs.declared.frame.Piled.{Piled}
 use Rattle.heads.specs.declared.fault.SheetFault.{SheetFault}

@@ -1,6 +1,6 @@
 -- The rule for the next byte of a frame, as data: the frame ends here, or a byte comes that passes a test, and then
 -- the form that this byte leads to.
-use Rattle.std.specs.Prelude.{ℕ, zero, suc, Bool, true, false, cond, List, [], ◌∷◌, ◌++◌, Some, None, Option}
+use Rattle.std.specs.Prelude.{ℕ, zero, suc, Bool, cond, List, [], ◌∷◌, ◌++◌, Some, None, Option}
 
 pub data Form : Type 0 where
   ends : Form

@@ -1,5 +1,5 @@
 -- The parts of a frame of line 2 or later.
-use Rattle.std.specs.Prelude.{ℕ, suc, ◌+◌, ◌*◌, Bool, true, false, cond, List, [], ◌∷◌, ◌++◌, take, drop, ◌==◌, slice_index}
+use Rattle.std.specs.Prelude.{ℕ, ◌*◌, cond, List, [], ◌∷◌, take, drop, ◌==◌, slice_index}
 
 pub data Parts : Type 0 where
   permute : (places : List ℕ) → Parts

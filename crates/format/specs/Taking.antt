@@ -1,5 +1,5 @@
 -- What the readers of a frame's parts promise. Each part holds for whatever form follows it, so that parts join up.
-use Rattle.std.specs.Prelude.{◌≡◌, ℕ, suc, ◌+◌, ◌≤◌, Bool, List, [], ◌∷◌, ◌++◌, length, take, drop, Some, None}
+use Rattle.std.specs.Prelude.{◌≡◌, ℕ, ◌+◌, ◌≤◌, Bool, List, [], length, take, drop, Some}
 use Rattle.heads.specs.declared.fault.SheetFault.{SheetFault}
 use Rattle.heads.specs.Faults.{shown, sheet_fault}
 use Rattle.format.specs.Form.{Form, wrong, listed}

@@ -1,5 +1,5 @@
 -- What the bytes of a head mean.
-use Rattle.std.specs.Prelude.{ℕ, Bool, true, false, cond, List, [], ◌∷◌, eqb, get_or}
+use Rattle.std.specs.Prelude.{ℕ, cond, List, eqb, get_or}
 use Rattle.cards.specs.Decks.{DeckMeaning, two_colour, standard}
 use Rattle.heads.specs.declared.head.DeckKind.{DeckKind}
 use Rattle.heads.specs.declared.head.DeckKind.TheVariants.{TwoColour, Standard}

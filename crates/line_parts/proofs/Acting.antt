@@ -3,7 +3,7 @@ use Rattle.std.proofs.Common.{◌≡◌, ℕ, pred, ◌-◌, ◌<◌, ◌≤◌,
 use Rattle.std.proofs.ByRecursion.{All-weaker}
 use Rattle.std.proofs.lemmas.List.{get_or-map, length-map, length-take}
 use Rattle.std.proofs.lemmas.Bool.{cases_lt}
-use Rattle.std.specs.List.{flat_map, AllByRecursion as All}
+use Rattle.std.specs.List.{flat_map, AllByRecursion}
 use Rattle.heads.specs.declared.head.Head.{Head}
 use Rattle.format.specs.Parts.{parts}
 use Rattle.script.specs.Model as model
@@ -43,7 +43,7 @@ few_written h lines l (writing.opened v) k = omega arith
 pub record TurnPlaces (places : List ℕ) : Type 0 where
   pub some : 1 ≤ length places
   pub few : length places ≤ 12
-  pub inside : All (λ p. (1 ≤ p) × (p ≤ 12)) places
+  pub inside : AllByRecursion (λ p. (1 ≤ p) × (p ≤ 12)) places
 
 module _ (s : CheckedScript) where
   pub lawful : LawfulScript (script s)

@@ -1,6 +1,6 @@
 // The marks that the cards of a row show.
 ghost use Rattle.std.specs.Prelude.{◌≡◌, ◌-◌, ◌≤◌, length, take, drop, replicate};
-ghost use Rattle.std.specs.List.{AllByRecursion as All};
+ghost use Rattle.std.specs.List.{AllByRecursion};
 ghost use Rattle.protocol.specs.Machine.{card_at, marks_at};
 
 use cards::place::Place;
@@ -15,7 +15,7 @@ pub fn card_at(row: [u8; 12], place: Place) -> u8
 // The marks of the cards at the places, in their order; past them 0.
 pub fn marks_at(row: [u8; 12], places: &[u8]) -> [u8; 12]
     requires few { length places.now ≤ 12 }
-    requires places { All (λ p. (1 ≤ p) × (p ≤ 12)) places.now }
+    requires places { AllByRecursion (λ p. (1 ≤ p) × (p ≤ 12)) places.now }
     ensures shown { take (length places.now) result ≡ marks_at places.now row }
     ensures past { drop (length places.now) result ≡ replicate (12 - length places.now) 0 }
 {

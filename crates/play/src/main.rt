@@ -1,5 +1,7 @@
 // Reads a sheet and a list of calls as text from standard input. Prints what each line of the sheet says and whether it
 // passes; then certifies it and, where it is certified, makes the calls on a table and prints the answers.
+#![tactic(auto)]
+
 use anyhow::anyhow;
 use rows::row::Row;
 use sessions::call::{Answer, Call};

@@ -1,19 +1,19 @@
 -- At each node of a certified tree, the rows under one input make a list of calls worth what the rows under another
 -- input of its class make it.
-use Rattle.std.proofs.Common.{◌≡◌, ℕ, zero, suc, ◌+◌, ◌-◌, ◌*◌, ◌^◌, ◌<◌, ◌≤◌, Bool, true, false, cond, not, ◌&&◌, ◌||◌, eqb, ltb, ◌⊎◌, List, [], ◌∷◌, ◌++◌, length, get_or, Some, None, sum_by, Option, sym, refl, ap, ◌∙◌, subst, inl, inr, mul-zero, zero-mul, arith, ltb-false}
+use Rattle.std.proofs.Common.{◌≡◌, ℕ, zero, suc, ◌+◌, ◌-◌, ◌*◌, ◌<◌, ◌≤◌, Bool, true, false, cond, not, eqb, ltb, ◌⊎◌, List, [], ◌∷◌, ◌++◌, length, Some, None, sym, refl, ap, ◌∙◌, subst, inl, inr, mul-zero, zero-mul, arith, ltb-false}
 use mathlib.Core.Path.{fun_ext}
-use Rattle.std.specs.List.{AllByRecursion as All}
+use Rattle.std.specs.List.{AllByRecursion}
 use Rattle.std.proofs.ByRecursion.{All-weaker}
 use Rattle.std.proofs.lemmas.Bool.{and_cases, not-false}
 use Rattle.cards.specs.Decks.{bit_reading}
 use Rattle.cards.specs.declared.reading.Reading.{Reading}
-use Rattle.cards.specs.declared.reading.Reading.TheVariants.{Zero, One, Neither}
-use Rattle.script.specs.Model.{Branch, Action, permute, shuffle, turn, committed, opened, none, LawfulAction}
-use Rattle.protocol.specs.Machine.{Protocol, LawfulProtocol, inputs, value, action_at, Mixing, permuting, shuffling, moved, marks_at, target, Run, drawn, branched, acted, is_result, given, sum_below}
-use Rattle.protocol.specs.States.{Row, weight, cards_of, Child, children, mixed, total_of, same_reading, errs}
+use Rattle.cards.specs.declared.reading.Reading.TheVariants.{Zero, One}
+use Rattle.script.specs.Model.{Branch, Action, permute, shuffle, turn, committed, opened, none}
+use Rattle.protocol.specs.Machine.{Protocol, LawfulProtocol, inputs, value, action_at, Mixing, permuting, shuffling, moved, target, branched, acted, is_result, given, sum_below}
+use Rattle.protocol.specs.States.{Row, weight, cards_of, Child, children, mixed, total_of, same_reading}
 use Rattle.protocol.specs.Tree.{Node, mixed_node, child_node}
-use Rattle.protocol.specs.Table.{Phase, empty, running, ended, Table, Call, Answer, began, stepped, turned, finished, stands_at, refused, Reply, refuse, run_of, bytes_of, overwritten, after_step, after_turn, after_finish, step_at, turn_at, finish_at, replied, call_of, Asked, lay_own, lay_other, lay_same, ask_turn, ask_finish, ask_where, Planned, step_drawn, asked, finishes}
-use Rattle.protocol.proofs.Sums.{sumBy_all, sum_below_split, sum_below_const}
+use Rattle.protocol.specs.Table.{Phase, running, ended, Table, Answer, stepped, turned, finished, stands_at, Reply, refuse, run_of, bytes_of, overwritten, after_step, after_turn, after_finish, step_at, turn_at, finish_at, replied, call_of, Asked, lay_own, lay_other, lay_same, ask_turn, ask_finish, ask_where, Planned, step_drawn, asked, finishes}
+use Rattle.protocol.proofs.Sums.{sum_by_all, sum_below_split, sum_below_const}
 use Rattle.protocol.proofs.Weighed.{weighed, weighed_ext, weighed_add, weighed_const, weighed_mixed, weighed_children, weighed_sum_below, Inward}
 use Rattle.protocol.proofs.TreeSum.{inward_permuting, inward_shuffling}
 use Rattle.protocol.proofs.Certified.{same_reading_true, RightRow, RightAt}
@@ -70,9 +70,9 @@ weighed_draws n c b m f g few cards ins fits rows =
     ∙ ap (λ x. weighed c b f (mixed c m rows) + x) (weighed_sum_below c b (n - m.total) (λ i a. g a) rows)
 
 -- at a result node, what depends on the reading depends on the function's value
-weighed_right : (p : Protocol) (b : ℕ) → b < inputs p → (action : Action) (h : Reading → List ℕ → ℕ) (rows : List Row) → All (RightRow p action) rows → weighed p.script.cards b (λ a. h (given p.deck a action) a) rows ≡ weighed p.script.cards b (h (bit_reading (value p b))) rows
+weighed_right : (p : Protocol) (b : ℕ) → b < inputs p → (action : Action) (h : Reading → List ℕ → ℕ) (rows : List Row) → AllByRecursion (RightRow p action) rows → weighed p.script.cards b (λ a. h (given p.deck a action) a) rows ≡ weighed p.script.cards b (h (bit_reading (value p b))) rows
 weighed_right p b l action h rows right =
-    sumBy_all (λ r. weight b r * h (given p.deck (cards_of n r) action) (cards_of n r)) (λ r. weight b r * h (bit_reading (value p b)) (cards_of n r)) rows
+    sum_by_all (λ r. weight b r * h (given p.deck (cards_of n r) action) (cards_of n r)) (λ r. weight b r * h (bit_reading (value p b)) (cards_of n r)) rows
     (All-weaker (RightRow p action)
     (λ r. weight b r * h (given p.deck (cards_of n r) action) (cards_of n r) ≡ weight b r * h (bit_reading (value p b)) (cards_of n r))
     each rows right)
@@ -231,7 +231,7 @@ module _ (p : Protocol) (ok : LawfulProtocol p) (n : ℕ) (room : 65535 ≤ n) (
         go true = stays 30
         go false =
             weighed_children p.script.cards b places (shown_worth branches) u.rows
-            ∙ sumBy_all (λ c. weighed p.script.cards b (shown_worth branches c.marks) c.rows) (λ c. weighed p.script.cards d (shown_worth branches c.marks) c.rows) (children p.script.cards places u.rows)
+            ∙ sum_by_all (λ c. weighed p.script.cards b (shown_worth branches c.marks) c.rows) (λ c. weighed p.script.cards d (shown_worth branches c.marks) c.rows) (children p.script.cards places u.rows)
             (All-weaker (Grown p ok P k u t branches) (λ c. Alike (shown_worth branches c.marks) c.rows)
             (turned_child places branches e) (children p.script.cards places u.rows) (tree_turn p ok P k u t places branches e))
             ∙ sym (weighed_children p.script.cards d places (shown_worth branches) u.rows)
@@ -270,8 +270,8 @@ module _ (p : Protocol) (ok : LawfulProtocol p) (n : ℕ) (room : 65535 ≤ n) (
 
     reads : (action : Action) → action_at p u.line ≡ action → is_result action ≡ true → Alike (λ a. read_worth (given p.deck a action) a) u.rows
     reads action e f =
-        let right : All (RightRow p action) u.rows =
-        subst (λ i. All (RightRow p i) u.rows) e ((sound (suc k) u t).right (ap is_result e ∙ f)) in
+        let right : AllByRecursion (RightRow p action) u.rows =
+        subst (λ i. AllByRecursion (RightRow p i) u.rows) e ((sound (suc k) u t).right (ap is_result e ∙ f)) in
         weighed_right p b hb action read_worth u.rows right
         ∙ (elim fair.by_value [
           | inl q ↦ ap (λ v. weighed p.script.cards b (read_worth (bit_reading v)) u.rows) q ∙ read_alike (value p d)

@@ -1,22 +1,20 @@
 -- Any list of calls on a table opened empty on a certified protocol.
-use Rattle.std.proofs.Common.{◌≡◌, ℕ, zero, suc, ◌+◌, ◌-◌, ◌*◌, ◌^◌, ◌<◌, ◌≤◌, Bool, true, false, cond, not, ◌&&◌, ◌||◌, eqb, ltb, ◌⊎◌, List, [], ◌∷◌, ◌++◌, length, get_or, Ok, Err, Result, sym, refl, ap, ◌∙◌, subst, inl, inr, arith, lit≤}
+use Rattle.std.proofs.Common.{◌≡◌, ℕ, ◌*◌, ◌<◌, ◌≤◌, Bool, true, false, cond, ltb, ◌⊎◌, List, [], ◌∷◌, sym, refl, ap, ◌∙◌, inl, inr, lit≤}
 use mathlib.Core.Path.{fun_ext}
-use Rattle.std.specs.List.{AllByRecursion as All}
-use Rattle.protocol.specs.Machine.{Protocol, LawfulProtocol, inputs, value, laid, sum_below, one_if, count}
-use Rattle.protocol.specs.States.{Row, start_state, total_of}
-use Rattle.protocol.specs.Tree.{Node, nodes, events, root, Certificate, certify, Certified, class, is_wrong}
-use Rattle.protocol.specs.Table.{Phase, empty, running, ended, Table, empty_table, Call, lay, step, Answer, began, stands_at, refused, Reply, refuse, laid_table, replied, Asked, lay_own, lay_other, lay_same, ask_turn, ask_finish, ask_where, Planned, step_drawn, asked, call_of, steps_in, filled, fillings, finishes}
+use Rattle.protocol.specs.Machine.{Protocol, LawfulProtocol, inputs, value, laid, sum_below, one_if}
+use Rattle.protocol.specs.Tree.{Node, nodes, root, Certificate, Certified, class, is_wrong}
+use Rattle.protocol.specs.Table.{empty, running, empty_table, lay, Answer, began, stands_at, refuse, replied, lay_own, lay_other, lay_same, ask_turn, ask_finish, ask_where, Planned, step_drawn, asked, fillings, finishes}
 use Rattle.protocol.specs.Promises.{Undistinguished, UndistinguishedBeforeFinish}
 use Rattle.protocol.proofs.Sums.{cond_lt}
-use Rattle.protocol.proofs.Weighed.{weighed, weighed_start, weighed_const}
+use Rattle.protocol.proofs.Weighed.{weighed_start, weighed_const}
 use Rattle.protocol.proofs.Reached.{below_eight, all_both}
-use Rattle.protocol.proofs.Scan.{Built, certify_built, Faultless, faultless_nodes}
+use Rattle.protocol.proofs.Scan.{certify_built, Faultless, faultless_nodes}
 use Rattle.protocol.proofs.Divided.{OneTotal}
 use Rattle.protocol.proofs.Classes.{one_class}
 use Rattle.protocol.proofs.Certified.{RightAt, right_from}
 use Rattle.protocol.proofs.Trees.{Tree, tree_top, tree_weaker, whole_tree, even_nodes}
 use Rattle.protocol.proofs.Worth.{After, then_worth, worth, count_worth, worth_own}
-use Rattle.protocol.proofs.Alike.{sits, Sound, Balanced, Unfinished, Fair, fair_next, node_alike}
+use Rattle.protocol.proofs.Alike.{sits, Sound, Fair, fair_next, node_alike}
 
 abbrev Fit : Protocol → ℕ → ℕ → Node → Type 0
 Fit p b d u = OneTotal p b d u × RightAt p u

@@ -1,25 +1,25 @@
 -- A built tree is certified exactly when every dealing yields the function's value and inputs that must look alike
 -- reach everything by equally many draw lists.
-use Rattle.std.proofs.Common.{◌≡◌, ℕ, zero, suc, ◌+◌, ◌-◌, ◌*◌, ◌^◌, ◌<◌, ◌≤◌, Bool, true, false, cond, not, ◌&&◌, ◌||◌, eqb, ltb, ◌⊎◌, ◌↔◌, List, [], ◌∷◌, ◌++◌, length, get_or, is_some, Some, None, Ok, Err, sum_by, Option, Result, sym, refl, ap, ◌∙◌, subst, inl, inr, le_refl, mul-zero, mul-one, arith, ltb-false, le-ltb, eq-eqb, eqb-true}
+use Rattle.std.proofs.Common.{◌≡◌, ℕ, zero, suc, ◌+◌, ◌*◌, ◌<◌, ◌≤◌, Bool, true, false, cond, not, ◌&&◌, eqb, ltb, List, [], ◌∷◌, length, is_some, Some, None, Option, sym, refl, ap, ◌∙◌, subst, inl, inr, le_refl, mul-zero, mul-one, arith, ltb-false, le-ltb, eq-eqb, eqb-true}
 use Rattle.std.specs.Option.{option_or}
-use Rattle.std.specs.List.{AllByRecursion as All}
+use Rattle.std.specs.List.{AllByRecursion}
 use Rattle.std.proofs.ByRecursion.{All-weaker}
-use Rattle.std.proofs.lemmas.Bool.{false≢true, and_parts, and_from, and_left, and_right, and_cases, or_parts, or_from, not-true, not-false, not_from_true, not_from_false, cases_Bool, cases_order, cases_lt}
-use Rattle.cards.specs.Decks.{bit_reading, reading_number}
+use Rattle.std.proofs.lemmas.Bool.{false≢true, and_parts, and_from, and_left, and_right, and_cases, or_parts, or_from, not-true, not-false, not_from_true, cases_Bool, cases_order, cases_lt}
+use Rattle.cards.specs.Decks.{bit_reading}
 use Rattle.cards.specs.declared.reading.Reading.{Reading}
 use Rattle.cards.specs.declared.reading.Reading.TheVariants.{Zero, One, Neither}
 use Rattle.script.specs.Model.{Action}
-use Rattle.protocol.specs.Machine.{Protocol, LawfulProtocol, inputs, value, action_at, Trace, same_trace, Run, begun, advanced, spent, passes, run_passes, is_result, given, stands, ways, counts, one_if, reached}
-use Rattle.protocol.specs.States.{Row, weight, cards_of, total_of, any_below, must_look_alike, leaks, Wrong, same_reading, errs, first_input, first_wrong, wrongness}
-use Rattle.protocol.specs.Tree.{Node, nodes, Certificate, certify, faultless, is_wrong}
-use Rattle.protocol.specs.Promises.{Counts, DrawsCounted, Counted, Correct, Secret, CertifiedExactly}
-use Rattle.protocol.proofs.Sums.{sumBy_all, sumBy_zero, all_zero, counts_none}
+use Rattle.protocol.specs.Machine.{Protocol, LawfulProtocol, inputs, value, action_at, Trace, same_trace, Run, begun, spent, run_passes, is_result, given, stands, ways, one_if}
+use Rattle.protocol.specs.States.{Row, weight, cards_of, total_of, any_below, must_look_alike, leaks, same_reading, errs, first_input, first_wrong}
+use Rattle.protocol.specs.Tree.{Node, nodes, is_wrong}
+use Rattle.protocol.specs.Promises.{DrawsCounted, Counted, Correct, Secret, CertifiedExactly}
+use Rattle.protocol.proofs.Sums.{sum_by_all, sum_by_zero, all_zero, counts_none}
 use Rattle.protocol.proofs.Same.{false_from}
-use Rattle.protocol.proofs.TreeSum.{OnScript, Single, run_at, met_at}
+use Rattle.protocol.proofs.TreeSum.{Single, run_at, met_at}
 use Rattle.protocol.proofs.Nodes.{all_of}
 use Rattle.protocol.proofs.Reached.{root_on, single_result, single_stands, ways_tree, met_total, node_by_node}
-use Rattle.protocol.proofs.Scan.{Faultless, faultless_nodes, nodes_faultless}
-use Rattle.protocol.proofs.Runs.{passes_from, Passed, passes_to, Used, used, counts_nothing}
+use Rattle.protocol.proofs.Scan.{faultless_nodes, nodes_faultless}
+use Rattle.protocol.proofs.Runs.{passes_from, passes_to, Used, used, counts_nothing}
 
 pub same_reading_true : (r s : Reading) → same_reading r s ≡ true → r ≡ s
 same_reading_true Zero Zero e = refl
@@ -73,9 +73,9 @@ abbrev pub RightRow : Protocol → Action → Row → Type 0
 RightRow p action r = (b : ℕ) → b < inputs p → errs p (given p.deck (cards_of p.script.cards r) action) r b ≡ false
 
 abbrev pub RightAt : Protocol → Node → Type 0
-RightAt p u = is_result (action_at p u.line) ≡ true → All (RightRow p (action_at p u.line)) u.rows
+RightAt p u = is_result (action_at p u.line) ≡ true → AllByRecursion (RightRow p (action_at p u.line)) u.rows
 
-rows_right : (p : Protocol) (action : Action) (rows : List Row) → is_some (first_wrong p action rows) ≡ false → All (RightRow p action) rows
+rows_right : (p : Protocol) (action : Action) (rows : List Row) → is_some (first_wrong p action rows) ≡ false → AllByRecursion (RightRow p action) rows
 rows_right p action [] e = tt
 rows_right p action (r ∷ rs) e =
     let both = none_first (first_input p (given p.deck (cards_of p.script.cards r) action) r 0 (inputs p)) (first_wrong p action rs) e in (
@@ -83,7 +83,7 @@ rows_right p action (r ∷ rs) e =
       rows_right p action rs both.1,
     )
 
-right_rows : (p : Protocol) (action : Action) (rows : List Row) → All (RightRow p action) rows → is_some (first_wrong p action rows) ≡ false
+right_rows : (p : Protocol) (action : Action) (rows : List Row) → AllByRecursion (RightRow p action) rows → is_some (first_wrong p action rows) ≡ false
 right_rows p action [] h = refl
 right_rows p action (r ∷ rs) h =
     first_none (first_input p (given p.deck (cards_of p.script.cards r) action) r 0 (inputs p)) (first_wrong p action rs)
@@ -98,7 +98,7 @@ right_from p u e f =
 from_right : (p : Protocol) (u : Node) → RightAt p u → is_wrong p u ≡ false
 from_right p u h = go (is_result (action_at p u.line)) h
   where
-    go : (t : Bool) → (t ≡ true → All (RightRow p (action_at p u.line)) u.rows) → is_some (cond t (first_wrong p (action_at p u.line) u.rows) None) ≡ false
+    go : (t : Bool) → (t ≡ true → AllByRecursion (RightRow p (action_at p u.line)) u.rows) → is_some (cond t (first_wrong p (action_at p u.line) u.rows) None) ≡ false
     go true h = right_rows p (action_at p u.line) u.rows (h refl)
     go false h = refl
 
@@ -129,16 +129,16 @@ module _ (p : Protocol) (b : ℕ) (h : b < inputs p) (u : Node) where
 
   bad_none : RightAt p u → met_at p b (bad p b) u ≡ 0
   bad_none right =
-      sumBy_zero (λ r. weight b r * one_if (bad p b (run_at u (cards_of p.script.cards r) []))) u.rows
+      sum_by_zero (λ r. weight b r * one_if (bad p b (run_at u (cards_of p.script.cards r) []))) u.rows
       (go (is_result (action_at p u.line)) right)
     where
-      go : (t : Bool) → (t ≡ true → All (RightRow p (action_at p u.line)) u.rows) → All (λ r. weight b r * one_if (t && differs r) ≡ 0) u.rows
+      go : (t : Bool) → (t ≡ true → AllByRecursion (RightRow p (action_at p u.line)) u.rows) → AllByRecursion (λ r. weight b r * one_if (t && differs r) ≡ 0) u.rows
       go true f =
           All-weaker (RightRow p (action_at p u.line)) (λ r. weight b r * one_if (differs r) ≡ 0)
           (λ r k. no_weight (weight b r) (differs r) (k b h)) u.rows (f refl)
       go false f = all_of (λ r. weight b r * 0 ≡ 0) (λ r. mul-zero (weight b r)) u.rows
 
-  none_bad : met_at p b (bad p b) u ≡ 0 → is_result (action_at p u.line) ≡ true → All (λ r. errs p (given p.deck (cards_of p.script.cards r) (action_at p u.line)) r b ≡ false) u.rows
+  none_bad : met_at p b (bad p b) u ≡ 0 → is_result (action_at p u.line) ≡ true → AllByRecursion (λ r. errs p (given p.deck (cards_of p.script.cards r) (action_at p u.line)) r b ≡ false) u.rows
   none_bad e f =
       All-weaker (λ r. weight b r * one_if (bad p b (run_at u (cards_of p.script.cards r) [])) ≡ 0)
       (λ r. errs p (given p.deck (cards_of p.script.cards r) (action_at p u.line)) r b ≡ false)
@@ -149,7 +149,7 @@ spent_nil : (ds : List ℕ) → spent ds ≡ true → ds ≡ []
 spent_nil [] e = refl
 spent_nil (d ∷ ds) e = absurd (false≢true e)
 
-never_passes : (p : Protocol) (b : ℕ) (test : Run → Bool) → ways p b test ≡ 0 → (draws : List ℕ) → length draws ≤ p.script.lines → All (λ d. d < 65536) draws → run_passes p b test draws ≡ false
+never_passes : (p : Protocol) (b : ℕ) (test : Run → Bool) → ways p b test ≡ 0 → (draws : List ℕ) → length draws ≤ p.script.lines → AllByRecursion (λ d. d < 65536) draws → run_passes p b test draws ≡ false
 unfolding ways
 never_passes p b test e draws few small = counts_nothing 65536 p.script.lines (run_passes p b test) e draws few small
 
@@ -157,12 +157,12 @@ no_ways : (p : Protocol) (b : ℕ) (test : Run → Bool) → ((draws : List ℕ)
 unfolding ways
 no_ways p b test h = counts_none 65536 p.script.lines (run_passes p b test) h
 
-all_swap : {X : Type 0} (n : ℕ) (P : X → ℕ → Type 0) (xs : List X) → ((b : ℕ) → b < n → All (λ x. P x b) xs) → All (λ x. (b : ℕ) → b < n → P x b) xs
+all_swap : {X : Type 0} (n : ℕ) (P : X → ℕ → Type 0) (xs : List X) → ((b : ℕ) → b < n → AllByRecursion (λ x. P x b) xs) → AllByRecursion (λ x. (b : ℕ) → b < n → P x b) xs
 all_swap n P [] h = tt
 all_swap n P (x ∷ xs) h = ((λ b l. (h b l).0), all_swap n P xs (λ b l. (h b l).1))
 
 module _ (p : Protocol) (ok : LawfulProtocol p) where
-  pub correct_from : All (λ u. is_wrong p u ≡ false) (nodes p) → Correct p
+  pub correct_from : AllByRecursion (λ u. is_wrong p u ≡ false) (nodes p) → Correct p
   correct_from right b h draws k r came empty result =
       elim (cases_Bool (same_reading (given p.deck r.cards (action_at p r.line)) (bit_reading (value p b)))) [
         | inl e ↦ same_reading_true (given p.deck r.cards (action_at p r.line)) (bit_reading (value p b)) e
@@ -172,8 +172,8 @@ module _ (p : Protocol) (ok : LawfulProtocol p) where
       way : Used p k (begun p b draws) r
       way = used p ok k (begun p b draws) r (root_on p ok) came
 
-      small : All (λ d. d < 65536) draws
-      small = way.small (subst (All (λ d. d < 65536)) (sym empty) tt)
+      small : AllByRecursion (λ d. d < 65536) draws
+      small = way.small (subst (AllByRecursion (λ d. d < 65536)) (sym empty) tt)
 
       short : k < p.script.lines
       short = let a = way.later in let c = way.on.there in omega arith
@@ -190,13 +190,13 @@ module _ (p : Protocol) (ok : LawfulProtocol p) where
       none : ways p b (bad p b) ≡ 0
       none =
           ways_tree p ok b h (bad p b) (single_bad p b)
-          ∙ sumBy_zero (met_at p b (bad p b)) (nodes p)
+          ∙ sum_by_zero (met_at p b (bad p b)) (nodes p)
           (All-weaker (λ u. is_wrong p u ≡ false) (λ u. met_at p b (bad p b) u ≡ 0) (λ u e. bad_none p b h u (right_from p u e)) (nodes p) right)
 
       never : run_passes p b (bad p b) draws ≡ false
       never = never_passes p b (bad p b) none draws few small
 
-  pub from_correct : Correct p → All (λ u. is_wrong p u ≡ false) (nodes p)
+  pub from_correct : Correct p → AllByRecursion (λ u. is_wrong p u ≡ false) (nodes p)
   from_correct right =
       All-weaker (λ u. (b : ℕ) → b < inputs p → met_at p b (bad p b) u ≡ 0) (λ u. is_wrong p u ≡ false)
       (λ u h. from_right p u (λ f. all_swap (inputs p) (λ r b. errs p (given p.deck (cards_of p.script.cards r) (action_at p u.line)) r b ≡ false) u.rows (λ b l. none_bad p b l u (h b l) f)))
@@ -212,7 +212,7 @@ module _ (p : Protocol) (ok : LawfulProtocol p) where
           false≢true (sym (not-true (same_reading (given p.deck q.at.cards (action_at p q.at.line)) (bit_reading (value p b))) both.1)
           ∙ ap (λ x. same_reading x (bit_reading (value p b))) f ∙ same_reading_refl (bit_reading (value p b))))
 
-      each : (b : ℕ) → b < inputs p → All (λ u. met_at p b (bad p b) u ≡ 0) (nodes p)
+      each : (b : ℕ) → b < inputs p → AllByRecursion (λ u. met_at p b (bad p b) u ≡ 0) (nodes p)
       each b h =
           all_zero (met_at p b (bad p b)) (nodes p)
           (sym (ways_tree p ok b h (bad p b) (single_bad p b)) ∙ no_ways p b (bad p b) (never b h))
@@ -235,7 +235,7 @@ draws_counted p ok b test draws =
           let way = used p ok q.steps (begun p b draws) q.at (root_on p ok) q.came in
           let none = spent_nil q.at.draws q.used_up in (
             (let a = way.later in let c = way.on.there in let f = way.few in let g = ap length none in omega arith),
-            way.small (subst (All (λ d. d < 65536)) (sym none) tt),
+            way.small (subst (AllByRecursion (λ d. d < 65536)) (sym none) tt),
           );
     }
 
@@ -282,10 +282,10 @@ stood_weight : (p : Protocol) (b l : ℕ) (t : Trace) (v : Node) → met_at p b 
 stood_weight p b l t v = met_total p b (stands l t) v (eqb v.line l && same_trace v.trace t) (λ a. refl)
 
 module _ (p : Protocol) (ok : LawfulProtocol p) where
-  pub secret_from : All (λ u. leaks p u.rows ≡ false) (nodes p) → Secret p
+  pub secret_from : AllByRecursion (λ u. leaks p u.rows ≡ false) (nodes p) → Secret p
   secret_from tight b d h k e l t =
       ways_tree p ok b h (stands l t) (single_stands p ok l t)
-      ∙ sumBy_all (met_at p b (stands l t)) (met_at p d (stands l t)) (nodes p)
+      ∙ sum_by_all (met_at p b (stands l t)) (met_at p d (stands l t)) (nodes p)
       (All-weaker (λ u. leaks p u.rows ≡ false) (λ v. met_at p b (stands l t) v ≡ met_at p d (stands l t) v)
       (λ v f.
       stood_weight p b l t v
@@ -294,7 +294,7 @@ module _ (p : Protocol) (ok : LawfulProtocol p) where
       (nodes p) tight)
       ∙ sym (ways_tree p ok d k (stands l t) (single_stands p ok l t))
 
-  pub from_secret : Secret p → All (λ u. leaks p u.rows ≡ false) (nodes p)
+  pub from_secret : Secret p → AllByRecursion (λ u. leaks p u.rows ≡ false) (nodes p)
   from_secret secret =
       All-weaker (λ u. (b : ℕ) → b < inputs p → Counted p b u) (λ u. leaks p u.rows ≡ false)
       (λ u c. from_tight p u (λ b d h k e. (c b h).total ∙ secret b d h k e u.line u.trace ∙ sym (c d k).total))

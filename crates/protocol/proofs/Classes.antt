@@ -1,18 +1,18 @@
 -- Classes: one class is one number of dealings for every trace.
-use Rattle.std.proofs.Common.{◌≡◌, ℕ, zero, suc, ◌+◌, ◌-◌, ◌*◌, ◌^◌, ◌<◌, ◌≤◌, Bool, true, false, cond, not, ◌&&◌, ◌||◌, ◌↔◌, List, [], ◌∷◌, ◌++◌, Ok, Err, sum_by, Result, sym, refl, ap, ◌∙◌, subst, arith}
-use Rattle.std.specs.List.{AllByRecursion as All}
+use Rattle.std.proofs.Common.{◌≡◌, ℕ, ◌<◌, Bool, true, false, cond, ◌&&◌, [], Ok, sym, refl, ap, ◌∙◌, subst, arith}
+use Rattle.std.specs.List.{AllByRecursion}
 use Rattle.std.proofs.ByRecursion.{All-weaker}
 use Rattle.std.proofs.lemmas.Bool.{false≢true, and_parts, and_from}
-use Rattle.protocol.specs.Machine.{Protocol, LawfulProtocol, inputs, action_at, Trace, same_trace, Run, is_result, ends_with, ways, dealings}
+use Rattle.protocol.specs.Machine.{Protocol, LawfulProtocol, inputs, action_at, Trace, same_trace, is_result, ends_with, dealings}
 use Rattle.protocol.specs.States.{total_of}
 use Rattle.protocol.specs.Tree.{Node, nodes, events, root, Certificate, certify, class, blank}
-use Rattle.protocol.specs.Promises.{Classed, Classes}
-use Rattle.protocol.proofs.Sums.{sumBy_all}
+use Rattle.protocol.specs.Promises.{Classes}
+use Rattle.protocol.proofs.Sums.{sum_by_all}
 use Rattle.protocol.proofs.Same.{same_trace_refl, same_trace_true, false_from}
 use Rattle.protocol.proofs.TreeSum.{Single, run_at, met_at}
 use Rattle.protocol.proofs.Sole.{Likeness, Foreign, Sole, sole_node}
 use Rattle.protocol.proofs.Reached.{root_on, single_result, ways_tree, met_total}
-use Rattle.protocol.proofs.Scan.{Built, certify_built, noted_all}
+use Rattle.protocol.proofs.Scan.{Built, certify_built}
 use Rattle.protocol.proofs.Divided.{Naming, OneTotal, naming_all, class_totals, totals_class, blank_class, blank_naming}
 
 abbrev ResultAt : Protocol → Node → Type 0
@@ -55,20 +55,20 @@ module _ (p : Protocol) (ok : LawfulProtocol p) where
           let k = and_parts (is_result (action_at p v.line)) (same_trace v.trace u.trace) f in
           differ (k.0, same_trace_true v.trace u.trace k.1)))
 
-  sole_ends : All (Sole (ResultAt p) (OneEnd p) (nodes p)) (nodes p)
+  sole_ends : AllByRecursion (Sole (ResultAt p) (OneEnd p) (nodes p)) (nodes p)
   unfolding events
   sole_ends = sole_node p ok (ResultAt p) (OneEnd p) (one_end p) p.script.lines (root p) (root_on p ok)
 
-  pub totals_from_dealings : (b d : ℕ) → b < inputs p → d < inputs p → ((t : Trace) → dealings p b t ≡ dealings p d t) → All (OneTotal p b d) (nodes p)
+  pub totals_from_dealings : (b d : ℕ) → b < inputs p → d < inputs p → ((t : Trace) → dealings p b t ≡ dealings p d t) → AllByRecursion (OneTotal p b d) (nodes p)
   totals_from_dealings b d h k e =
       All-weaker (Sole (ResultAt p) (OneEnd p) (nodes p)) (OneTotal p b d)
       (λ u sole r. sym (dealt_total b h u sole r) ∙ e u.trace ∙ dealt_total d k u sole r)
       (nodes p) sole_ends
 
-  pub dealings_from_totals : (b d : ℕ) → b < inputs p → d < inputs p → All (OneTotal p b d) (nodes p) → (t : Trace) → dealings p b t ≡ dealings p d t
+  pub dealings_from_totals : (b d : ℕ) → b < inputs p → d < inputs p → AllByRecursion (OneTotal p b d) (nodes p) → (t : Trace) → dealings p b t ≡ dealings p d t
   dealings_from_totals b d h k all t =
       ways_tree p ok b h (ends_with p t) (single_ends p t)
-      ∙ sumBy_all (met_at p b (ends_with p t)) (met_at p d (ends_with p t)) (nodes p)
+      ∙ sum_by_all (met_at p b (ends_with p t)) (met_at p d (ends_with p t)) (nodes p)
       (All-weaker (OneTotal p b d) (λ v. met_at p b (ends_with p t) v ≡ met_at p d (ends_with p t) v) same (nodes p) all)
       ∙ sym (ways_tree p ok d k (ends_with p t) (single_ends p t))
     where
@@ -80,7 +80,7 @@ module _ (p : Protocol) (ok : LawfulProtocol p) where
           go true f = ap (λ k. cond (same_trace v.trace t) k 0) (f refl)
           go false f = refl
 
-  pub one_class : (bench : ℕ) (c : Certificate) → certify p bench ≡ Ok c → (b d : ℕ) → b < inputs p → d < inputs p → class c b ≡ class c d → All (OneTotal p b d) (nodes p)
+  pub one_class : (bench : ℕ) (c : Certificate) → certify p bench ≡ Ok c → (b d : ℕ) → b < inputs p → d < inputs p → class c b ≡ class c d → AllByRecursion (OneTotal p b d) (nodes p)
   one_class bench c e b d h k f =
       let built = certify_built p bench c e in
       (class_totals p (nodes p) (blank p) b d h k

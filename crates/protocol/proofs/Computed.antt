@@ -1,5 +1,5 @@
 -- The worked protocols, computed.
-use Rattle.std.proofs.Common.{◌≡◌, refl}
+use Rattle.std.proofs.Common.{refl}
 use Rattle.protocol.specs.Tree.{certify, scan, events, subtree}
 use Rattle.protocol.specs.Table.{session}
 use Rattle.protocol.specs.Samples.{Worked}

@@ -1,13 +1,11 @@
 -- What a script's lines do to a row of cards leaves it a row of that many cards.
-use Rattle.std.proofs.Common.{◌≡◌, ℕ, zero, suc, ◌+◌, ◌-◌, ◌*◌, ◌/◌, ◌%◌, ◌^◌, ◌<◌, ◌≤◌, Bool, true, false, cond, ◌&&◌, eqb, ltb, leb, ◌≢◌, ◌⊎◌, List, [], ◌∷◌, length, get_or, set, sym, refl, ap, ◌∙◌, subst, inl, inr, zero-add, arith, length-set, get_or-set_other, get_or-set_same, ltb-true, le-ltb, eqb-true}
-use Rattle.std.specs.List.{range_with_len}
+use Rattle.std.proofs.Common.{◌≡◌, ℕ, suc, ◌+◌, ◌<◌, ◌≤◌, Bool, true, false, cond, ◌&&◌, eqb, ltb, ◌⊎◌, List, [], ◌∷◌, length, get_or, set, sym, refl, ap, ◌∙◌, subst, inl, inr, zero-add, arith, length-set, get_or-set_other, get_or-set_same, ltb-true, le-ltb, eqb-true}
 use Rattle.std.proofs.lemmas.List.{get_or_past, set_past, get_or_default}
-use Rattle.std.proofs.lemmas.Bool.{cases_lt, cases_eq, cases_Bool, and_parts, and_right, cond-false}
+use Rattle.std.proofs.lemmas.Bool.{cases_lt, cases_eq, and_parts, and_right, cond-false}
 use Rattle.std.proofs.lemmas.List.FromFn.{get_or-map-range_with_len}
 use Rattle.cards.specs.Lists.{table}
 use Rattle.cards.specs.Rows.{settled, carried, Dealt}
 use Rattle.cards.specs.Shuffles.{ShuffleMeaning, LawfulShuffle, image, Permutes}
-use Rattle.cards.specs.Decks.{LawfulDeck}
 use Rattle.protocol.specs.Machine.{Protocol, LawfulProtocol, laid, fitted}
 use Rattle.protocol.proofs.Sums.{cond_lt, cond_ge}
 

@@ -1,9 +1,8 @@
 -- The classes of a certificate: two inputs have one class exactly when they have one total at each result node.
-use Rattle.std.proofs.Common.{◌≡◌, ℕ, zero, suc, ◌+◌, ◌-◌, ◌*◌, ◌^◌, ◌<◌, ◌≤◌, Bool, true, false, cond, not, ◌&&◌, ◌||◌, eqb, ltb, ◌⊎◌, ◌↔◌, List, [], ◌∷◌, ◌++◌, length, get_or, replicate, sym, refl, ap, ◌∙◌, subst, inl, inr, arith, eq-eqb, eqb-true}
-use mathlib.Core.Path.{fun_ext}
+use Rattle.std.proofs.Common.{◌≡◌, ℕ, zero, suc, ◌+◌, ◌<◌, ◌≤◌, Bool, true, false, cond, ◌&&◌, eqb, List, [], ◌∷◌, get_or, sym, refl, ap, ◌∙◌, subst, inl, inr, arith, eq-eqb, eqb-true}
 use lib.ListN.{get_or-replicate}
-use Rattle.std.specs.List.{AllByRecursion as All}
-use Rattle.std.proofs.lemmas.Bool.{false≢true, and_parts, and_from, cases_order, cases_Bool}
+use Rattle.std.specs.List.{AllByRecursion}
+use Rattle.std.proofs.lemmas.Bool.{false≢true, and_parts, and_from, cases_order}
 use Rattle.protocol.specs.Machine.{Protocol, inputs, action_at, is_result}
 use Rattle.protocol.specs.States.{Row, total_of}
 use Rattle.protocol.specs.Tree.{Node, Certificate, class, first_from, divided, noted, blank}
@@ -135,14 +134,14 @@ module _ (p : Protocol) where
   naming_all [] c h = h
   naming_all (u ∷ us) c h = naming_all us (noted p u c) (one_node u c h)
 
-  pub class_totals : (us : List Node) (c : Certificate) (b d : ℕ) → b < inputs p → d < inputs p → class (noted_all p us c) b ≡ class (noted_all p us c) d → (class c b ≡ class c d) × All (OneTotal p b d) us
+  pub class_totals : (us : List Node) (c : Certificate) (b d : ℕ) → b < inputs p → d < inputs p → class (noted_all p us c) b ≡ class (noted_all p us c) d → (class c b ≡ class c d) × AllByRecursion (OneTotal p b d) us
   class_totals [] c b d h k e = (e, tt)
   class_totals (u ∷ us) c b d h k e =
       let ih = class_totals us (noted p u c) b d h k e in
       let x = one_same u c b d h k ih.0 in
       (x.0, (x.1, ih.1))
 
-  pub totals_class : (us : List Node) (c : Certificate) (b d : ℕ) → b < inputs p → d < inputs p → class c b ≡ class c d → All (OneTotal p b d) us → class (noted_all p us c) b ≡ class (noted_all p us c) d
+  pub totals_class : (us : List Node) (c : Certificate) (b d : ℕ) → b < inputs p → d < inputs p → class c b ≡ class c d → AllByRecursion (OneTotal p b d) us → class (noted_all p us c) b ≡ class (noted_all p us c) d
   totals_class [] c b d h k e all = e
   totals_class (u ∷ us) c b d h k e all =
       totals_class us (noted p u c) b d h k (same_one u c b d h k e all.0) all.1

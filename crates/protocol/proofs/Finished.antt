@@ -1,18 +1,18 @@
 -- Each finish that is granted gives the function's value of the input laid.
-use Rattle.std.proofs.Common.{◌≡◌, ℕ, zero, suc, ◌+◌, ◌-◌, ◌*◌, ◌/◌, ◌%◌, ◌^◌, ◌<◌, ◌≤◌, Bool, true, false, cond, not, ◌&&◌, ◌||◌, eqb, ltb, ◌⊎◌, List, [], ◌∷◌, ◌++◌, length, get_or, Some, None, Option, sym, refl, ap, ◌∙◌, subst, inl, inr, arith, ltb-true, ne_eqb}
-use Rattle.std.specs.List.{ContainsAt as Has, AllByRecursion as All}
+use Rattle.std.proofs.Common.{◌≡◌, ℕ, zero, suc, ◌-◌, ◌<◌, Bool, true, false, cond, ltb, ◌⊎◌, List, [], ◌∷◌, ◌++◌, length, Some, None, Option, sym, refl, ap, ◌∙◌, subst, inl, inr, arith, ltb-true, ne_eqb}
+use Rattle.std.specs.List.{AllByRecursion}
 use Rattle.std.proofs.ByRecursion.{all-has}
 use Rattle.std.proofs.lemmas.List.{append-nil}
-use Rattle.std.proofs.lemmas.Bool.{cases_eq, false≢true}
+use Rattle.std.proofs.lemmas.Bool.{cases_eq}
 use Rattle.cards.specs.Decks.{bit_reading, reading_number}
 use Rattle.cards.specs.declared.reading.Reading.{Reading}
 use Rattle.cards.specs.declared.reading.Reading.TheVariants.{Zero, One, Neither}
-use Rattle.script.specs.Model.{Branch, Action, permute, shuffle, turn, committed, opened, none}
+use Rattle.script.specs.Model.{Action, permute, shuffle, turn, committed, opened, none}
 use Rattle.protocol.specs.Machine.{Protocol, inputs, value, action_at, laid, Mixing, permuting, shuffling, moved, marks_at, target, Trace, Run, drawn, branched, acted, and_then, advanced, begun, is_result, given}
 use Rattle.protocol.specs.Table.{Phase, empty, running, ended, Table, empty_table, Call, lay, step, turn_up, finish, where_now, Answer, began, stepped, turned, finished, stands_at, refused, Reply, refuse, run_of, after_step, after_turn, after_finish, step_at, turn_at, finish_at, when_running, lay_at, replied, Session, preceded, session, Granted, grant, is_granted, granted}
 use Rattle.protocol.specs.Promises.{Correct, FinishesRight}
-use Rattle.protocol.proofs.Worth.{Laid, replied_laid, lay_refused}
-use Rattle.protocol.proofs.Followed.{standing, Recorded, Stays, Moves, Effect, effect, stays_recorded, stays_standing, laid_once}
+use Rattle.protocol.proofs.Worth.{Laid, replied_laid}
+use Rattle.protocol.proofs.Followed.{standing, Recorded, Effect, effect, stays_recorded, stays_standing, laid_once}
 
 -- more draws than a run needs change nothing but what is left
 
@@ -175,7 +175,7 @@ module _ (p : Protocol) (correct : Correct p) (x : ℕ) (hx : x < inputs p) wher
   value_given t trace at (stands_at w) g = tt
   value_given t trace at (refused f) g = tt
 
-  finished_right : (calls : List Call) (trace : Trace) (t : Table) (bytes first : List ℕ) → Laid t.phase → Recorded first trace t.written bytes → Reachable p x t trace → All (ValueOf p x) (session p t bytes calls).answers
+  finished_right : (calls : List Call) (trace : Trace) (t : Table) (bytes first : List ℕ) → Laid t.phase → Recorded first trace t.written bytes → Reachable p x t trace → AllByRecursion (ValueOf p x) (session p t bytes calls).answers
   unfolding session
   finished_right [] trace t bytes first h rec at = tt
   finished_right (c ∷ cs) trace t bytes first h rec at = (
@@ -187,7 +187,7 @@ module _ (p : Protocol) (correct : Correct p) (x : ℕ) (hx : x < inputs p) wher
       r : Reply
       r = replied p t bytes c
 
-      go : Effect p first trace t bytes c r → ((after : Trace) → Recorded first after r.table.written r.bytes → Reachable p x r.table after → All (ValueOf p x) (session p r.table r.bytes cs).answers) → All (ValueOf p x) (session p r.table r.bytes cs).answers
+      go : Effect p first trace t bytes c r → ((after : Trace) → Recorded first after r.table.written r.bytes → Reachable p x r.table after → AllByRecursion (ValueOf p x) (session p r.table r.bytes cs).answers) → AllByRecursion (ValueOf p x) (session p r.table r.bytes cs).answers
       go (inl s) ih =
           ih trace
           (stays_recorded p first trace t bytes c r s rec)
@@ -212,7 +212,7 @@ NotFinished (refused f) = Unit
 
 abbrev Ends : Protocol → Granted → Session → Type 0
 Ends p g s =
-    All NotFinished s.answers ⊎ ((x : ℕ) × (g.laid ≡ x ∷ []) × (x < inputs p) × All (ValueOf p x) s.answers)
+    AllByRecursion NotFinished s.answers ⊎ ((x : ℕ) × (g.laid ≡ x ∷ []) × (x < inputs p) × AllByRecursion (ValueOf p x) s.answers)
 
 refused_ends : (p : Protocol) (g : Granted) (s : Session) (a : Answer) → NotFinished a → ((x : ℕ) → ValueOf p x a) → Ends p g s → Ends p g (preceded a s)
 refused_ends p g s a n v (inl h) = inl (n, h)

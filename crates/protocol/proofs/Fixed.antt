@@ -1,23 +1,21 @@
 -- A state is fixed by its weights; the weights of the start state and after a permute or a shuffle.
-use Rattle.std.proofs.Common.{◌≡◌, ℕ, zero, suc, ◌+◌, ◌-◌, ◌*◌, ◌^◌, ◌<◌, ◌≤◌, Bool, true, false, cond, not, ◌&&◌, ◌||◌, eqb, ltb, ◌⊎◌, List, [], ◌∷◌, ◌++◌, length, get_or, sum_by, sym, refl, ap, ◌∙◌, subst, inl, inr, zero-add, arith, lt-ltb, ne_eqb}
+use Rattle.std.proofs.Common.{◌≡◌, ℕ, ◌+◌, ◌*◌, ◌<◌, ◌≤◌, cond, ◌&&◌, eqb, ltb, List, [], ◌∷◌, length, get_or, sum_by, sym, refl, ap, ◌∙◌, subst, inl, inr, zero-add, arith, lt-ltb, ne_eqb}
 use mathlib.Core.Path.{fun_ext}
-use Rattle.std.specs.List.{AllByRecursion as All}
+use Rattle.std.specs.List.{AllByRecursion}
 use Rattle.std.proofs.ByRecursion.{All-weaker}
-use Rattle.std.proofs.lemmas.List.{ext_get_or, get_or_past, get_or_default}
+use Rattle.std.proofs.lemmas.List.{ext_get_or, get_or_default}
 use Rattle.std.proofs.lemmas.List.Sums.{sum_by-cons}
 use Rattle.std.proofs.lemmas.Bool.{cases_eq, cases_lt, cases_order, cond-true, and_from}
-use Rattle.cards.specs.Lists.{table}
-use Rattle.cards.specs.Rows.{carried, packed, unpacked, OneToOne, Dealt}
-use Rattle.cards.specs.Shuffles.{ShuffleMeaning, LawfulShuffle, image, Permutes}
-use Rattle.cards.proofs.Moves.{unpack_pack, pack_unpack, unpack_dealt, carried_found, carried_long}
-use Rattle.script.specs.Model.{Action, permute, shuffle, LawfulAction}
-use Rattle.protocol.specs.Machine.{Protocol, LawfulProtocol, inputs, action_at, laid, fitted, Mixing, permuting, shuffling, moved, one_if, sum_below}
-use Rattle.protocol.specs.States.{Row, weight, weight_of, cards_of, start_state, started, mixed, Above, Ascending, Weighted, State}
-use Rattle.protocol.specs.Promises.{OneState, Starts, MixesTo, weight_carried, carried_number}
-use Rattle.protocol.proofs.Sums.{sumBy_all, cond_ge, times_one}
-use Rattle.protocol.proofs.Dealt.{Inside, dealt_carried, lawful_fitted, fitted_width, fitted_total}
+use Rattle.cards.specs.Rows.{carried, packed, unpacked, OneToOne}
+use Rattle.cards.specs.Shuffles.{ShuffleMeaning, LawfulShuffle, image}
+use Rattle.cards.proofs.Moves.{unpack_pack, pack_unpack, unpack_dealt, carried_found}
+use Rattle.script.specs.Model.{permute, shuffle, LawfulAction}
+use Rattle.protocol.specs.Machine.{Protocol, LawfulProtocol, inputs, laid, fitted, Mixing, permuting, shuffling, moved, one_if, sum_below}
+use Rattle.protocol.specs.States.{Row, weight, weight_of, cards_of, start_state, mixed, Above, Weighted, State}
+use Rattle.protocol.specs.Promises.{OneState, Starts, MixesTo, carried_number}
+use Rattle.protocol.proofs.Sums.{sum_by_all, cond_ge, times_one}
+use Rattle.protocol.proofs.Dealt.{dealt_carried, lawful_fitted, fitted_width, fitted_total}
 use Rattle.protocol.proofs.Weighed.{weighed, weighed_started, weighed_start, weighed_mixed, Inward}
-use Rattle.protocol.proofs.TreeSum.{inward_permuting, inward_shuffling}
 use Rattle.protocol.proofs.Good.{Packed, Good, good_start, good_mixed_from, weight_above, weight_first, ascending_above}
 
 -- one state
@@ -79,9 +77,9 @@ one_state (x ∷ xs) (y ∷ ys) s t same =
         ]
 
 -- the weighted sum against the test of a sequence
-weighed_number : (n b x : ℕ) (rows : List Row) → All (Packed n) rows → weighed n b (λ a. one_if (eqb (packed n a) x)) rows ≡ weight_of b x rows
+weighed_number : (n b x : ℕ) (rows : List Row) → AllByRecursion (Packed n) rows → weighed n b (λ a. one_if (eqb (packed n a) x)) rows ≡ weight_of b x rows
 weighed_number n b x rows h =
-    sumBy_all (λ r. weight b r * one_if (eqb (packed n (cards_of n r)) x)) (λ r. cond (eqb r.sequence x) (weight b r) 0) rows
+    sum_by_all (λ r. weight b r * one_if (eqb (packed n (cards_of n r)) x)) (λ r. cond (eqb r.sequence x) (weight b r) 0) rows
     (All-weaker (Packed n) (λ r. weight b r * one_if (eqb (packed n (cards_of n r)) x) ≡ cond (eqb r.sequence x) (weight b r) 0)
     (λ r e. ap (λ k. weight b r * one_if (eqb k x)) e ∙ times_one (weight b r) (eqb r.sequence x)) rows h)
 

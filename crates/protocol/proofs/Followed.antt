@@ -1,15 +1,12 @@
 -- Table and machine: a table that is laid follows the machine's run for the input laid.
-use Rattle.std.proofs.Common.{◌≡◌, ℕ, zero, suc, ◌+◌, ◌-◌, ◌*◌, ◌^◌, ◌<◌, ◌≤◌, min, Bool, true, false, cond, not, ◌&&◌, ◌||◌, eqb, ltb, ◌⊎◌, List, [], ◌∷◌, ◌++◌, map, length, get_or, take, drop, Some, None, Option, sym, refl, ap, ◌∙◌, subst, inl, inr, arith, length-append, length-drop, ltb-false, ltb-true}
-use Rattle.std.specs.List.{flat_map, AllByRecursion as All}
+use Rattle.std.proofs.Common.{◌≡◌, ℕ, suc, ◌+◌, ◌-◌, ◌≤◌, Bool, true, false, cond, ltb, ◌⊎◌, List, [], ◌∷◌, ◌++◌, length, take, drop, Some, None, Option, sym, refl, ap, ◌∙◌, subst, inl, inr, arith, length-append, length-drop, ltb-false, ltb-true}
 use Rattle.std.proofs.lemmas.List.{append-nil, append_assoc, length-map, take_at, drop_at, drop-drop}
-use Rattle.std.proofs.lemmas.Bool.{false≢true}
 use Rattle.cards.specs.declared.reading.Reading.{Reading}
 use Rattle.cards.specs.declared.reading.Reading.TheVariants.{Zero, One, Neither}
-use Rattle.script.specs.Model.{Branch, Action, permute, shuffle, turn, committed, opened, none}
-use Rattle.protocol.specs.Machine.{Protocol, inputs, action_at, laid, Mixing, permuting, shuffling, moved, marks_at, card_at, target, Trace, Run, drawn, branched, acted, and_then, advanced, begun, given}
-use Rattle.protocol.specs.Table.{Phase, empty, running, ended, Table, empty_table, Call, lay, step, turn_up, finish, where_now, Answer, began, stepped, turned, finished, stands_at, refused, Reply, refuse, run_of, bytes_of, overwritten, after_step, after_turn, after_finish, step_at, turn_at, finish_at, when_running, lay_at, replied, Session, preceded, session, Granted, nothing_granted, drawn_at, grant, is_granted, granted}
+use Rattle.script.specs.Model.{Action, permute, shuffle, turn, committed, opened, none}
+use Rattle.protocol.specs.Machine.{Protocol, inputs, action_at, laid, Mixing, shuffling, moved, marks_at, card_at, target, Trace, Run, branched, acted, and_then, advanced, given}
+use Rattle.protocol.specs.Table.{Phase, empty, running, ended, Table, empty_table, Call, lay, step, turn_up, finish, where_now, Answer, began, Reply, refuse, run_of, bytes_of, overwritten, after_step, after_turn, after_finish, step_at, turn_at, finish_at, when_running, replied, Session, preceded, session, Granted, drawn_at, grant, is_granted, granted}
 use Rattle.protocol.specs.Promises.{Follows, TableAndMachine}
-use Rattle.protocol.proofs.Sums.{cond_lt}
 use Rattle.protocol.proofs.Worth.{Laid, replied_laid, lay_refused}
 
 -- the machine's run where the table stands

@@ -1,19 +1,14 @@
 -- The states of a tree ascend, have no row of zero weights, and know their rows of cards by number.
-use Rattle.std.proofs.Common.{◌≡◌, ℕ, zero, suc, ◌+◌, ◌-◌, ◌*◌, ◌^◌, ◌<◌, ◌≤◌, Bool, true, false, cond, not, ◌&&◌, ◌||◌, eqb, ltb, ◌⊎◌, List, [], ◌∷◌, ◌++◌, length, get_or, Some, None, sum_by, filter, Option, sym, refl, ap, ◌∙◌, subst, inl, inr, zero-add, arith, ltb-false, ltb-true, eq-eqb, ne_eqb}
-use Rattle.std.specs.List.{AllByRecursion as All}
-use Rattle.std.proofs.ByRecursion.{all_kept_by, All-weaker}
+use Rattle.std.proofs.Common.{◌≡◌, ℕ, zero, suc, ◌+◌, ◌<◌, ◌≤◌, Bool, true, false, cond, not, eqb, ltb, List, [], ◌∷◌, filter, refl, ap, ◌∙◌, zero-add, arith, ltb-false, ltb-true, eq-eqb, ne_eqb}
+use Rattle.std.specs.List.{AllByRecursion}
+use Rattle.std.proofs.ByRecursion.{all_kept_by}
 use Rattle.std.proofs.lemmas.List.Sums.{sum_by-cons}
-use Rattle.cards.specs.Lists.{table}
-use Rattle.cards.specs.Rows.{packed, unpacked}
+use Rattle.cards.specs.Rows.{packed}
 use Rattle.cards.proofs.Moves.{unpack_pack, unpack_dealt}
-use Rattle.script.specs.Model.{Branch, turn}
-use Rattle.protocol.specs.Machine.{Protocol, LawfulProtocol, inputs, laid, Mixing, moved, action_at, target}
-use Rattle.protocol.specs.States.{Row, weight, weight_of, cards_of, added, join, unit_row, started, start_state, row_after, joined_after, mixed_by, mixed, is_shown, shows, least_shown, Child, split, children, Above, Ascending, Weighted, State}
-use Rattle.protocol.specs.Tree.{Node, nodes_in, subtree, nodes, events, root, child_node}
-use Rattle.protocol.proofs.Sums.{sumBy_zero}
+use Rattle.protocol.specs.Machine.{Protocol, LawfulProtocol, inputs, laid, Mixing, moved}
+use Rattle.protocol.specs.States.{Row, weight, weight_of, cards_of, added, join, unit_row, started, start_state, row_after, joined_after, mixed_by, mixed, is_shown, shows, least_shown, split, Above, Ascending, Weighted, State}
 use Rattle.protocol.proofs.Dealt.{Inside, dealt_carried, dealt_laid, table_at}
 use Rattle.protocol.proofs.Weighed.{Inward, weight_added}
-use Rattle.protocol.proofs.Nodes.{all_of}
 
 -- a row's sequence is the number of its cards
 abbrev pub Packed : ℕ → Row → Type 0
@@ -21,7 +16,7 @@ Packed n r = packed n (cards_of n r) ≡ r.sequence
 
 pub record Good (n : ℕ) (rows : List Row) : Type 0 where
   pub state : State rows
-  pub numbered : All (Packed n) rows
+  pub numbered : AllByRecursion (Packed n) rows
 
 above_down : (x y : ℕ) (rows : List Row) → y ≤ x → Above x rows → Above y rows
 above_down x y [] h a = tt
@@ -66,11 +61,11 @@ ascending_join r (y ∷ ys) a = go (ltb r.sequence y.sequence) (ltb y.sequence r
     go false false e f = a
 
 -- what holds of the rows and of a row, and of two rows of one sequence joined, holds after a join
-all_join : (P : Row → Type 0) → ((x r : Row) → x.sequence ≡ r.sequence → P x → P r → P (record { sequence = x.sequence; weights = added x.weights r.weights })) → (r : Row) (rows : List Row) → P r → All P rows → All P (join r rows)
+all_join : (P : Row → Type 0) → ((x r : Row) → x.sequence ≡ r.sequence → P x → P r → P (record { sequence = x.sequence; weights = added x.weights r.weights })) → (r : Row) (rows : List Row) → P r → AllByRecursion P rows → AllByRecursion P (join r rows)
 all_join P merge r [] h all = (h, tt)
 all_join P merge r (y ∷ ys) h all = go (ltb r.sequence y.sequence) (ltb y.sequence r.sequence) refl refl (all_join P merge r ys h all.1)
   where
-    go : (t u : Bool) → ltb r.sequence y.sequence ≡ t → ltb y.sequence r.sequence ≡ u → All P (join r ys) → All P (cond t (r ∷ y ∷ ys) (cond u (y ∷ join r ys) (record { sequence = y.sequence; weights = added y.weights r.weights } ∷ ys)))
+    go : (t u : Bool) → ltb r.sequence y.sequence ≡ t → ltb y.sequence r.sequence ≡ u → AllByRecursion P (join r ys) → AllByRecursion P (cond t (r ∷ y ∷ ys) (cond u (y ∷ join r ys) (record { sequence = y.sequence; weights = added y.weights r.weights } ∷ ys)))
     go true u e f ih = (h, all)
     go false true e f ih = (all.0, ih)
     go false false e f ih =
@@ -122,7 +117,7 @@ good_start p ok few = go (inputs p) few
         (ap (packed n) (unpack_pack n (laid p k) ok.script.few_cards (dealt_laid p k ok)))
         (go k (omega arith))
 
-good_joined : (n : ℕ) (m : Mixing) (d : ℕ) → n ≤ 12 → Inside n (m.sends d) → (rows state : List Row) → All Weighted rows → Good n state → Good n (joined_after n m d rows state)
+good_joined : (n : ℕ) (m : Mixing) (d : ℕ) → n ≤ 12 → Inside n (m.sends d) → (rows state : List Row) → AllByRecursion Weighted rows → Good n state → Good n (joined_after n m d rows state)
 good_joined n m d few ins [] state w g = g
 good_joined n m d few ins (r ∷ rs) state w g =
     good_joined n m d few ins rs (join (row_after n m d r) state) w.1
@@ -131,7 +126,7 @@ good_joined n m d few ins (r ∷ rs) state w g =
     (dealt_carried n (m.sends d) (cards_of n r) ins (unpack_dealt n r.sequence few))))
     g)
 
-pub good_mixed_from : (n : ℕ) (m : Mixing) → n ≤ 12 → Inward n m → (rows : List Row) → All Weighted rows → Good n (mixed n m rows)
+pub good_mixed_from : (n : ℕ) (m : Mixing) → n ≤ 12 → Inward n m → (rows : List Row) → AllByRecursion Weighted rows → Good n (mixed n m rows)
 good_mixed_from n m few ins rows w = go m.total
   where
     go : (k : ℕ) → Good n (mixed_by n m rows k)
@@ -149,7 +144,7 @@ state_kept test rows s =
     }
 
 -- what a filter keeps, a turn keeps in its children
-children_keep : (n : ℕ) (places : List ℕ) (P : List Row → Type 0) → ((test : Row → Bool) (rows : List Row) → P rows → P (filter test rows)) → (k : ℕ) (rows : List Row) → P rows → All (λ c. P c.rows) (split k n places rows)
+children_keep : (n : ℕ) (places : List ℕ) (P : List Row → Type 0) → ((test : Row → Bool) (rows : List Row) → P rows → P (filter test rows)) → (k : ℕ) (rows : List Row) → P rows → AllByRecursion (λ c. P c.rows) (split k n places rows)
 children_keep n places P keep zero rows h = tt
 children_keep n places P keep (suc k) [] h = tt
 children_keep n places P keep (suc k) (r ∷ rs) h = (
@@ -159,10 +154,10 @@ children_keep n places P keep (suc k) (r ∷ rs) h = (
       (keep (λ x. not (is_shown n places (least_shown n places (shows n places r) rs) x)) (r ∷ rs) h),
 )
 
-pub states_children : (n : ℕ) (places : List ℕ) (k : ℕ) (rows : List Row) → State rows → All (λ c. State c.rows) (split k n places rows)
+pub states_children : (n : ℕ) (places : List ℕ) (k : ℕ) (rows : List Row) → State rows → AllByRecursion (λ c. State c.rows) (split k n places rows)
 states_children n places k rows s = children_keep n places State state_kept k rows s
 
-pub good_children : (n : ℕ) (places : List ℕ) (k : ℕ) (rows : List Row) → Good n rows → All (λ c. Good n c.rows) (split k n places rows)
+pub good_children : (n : ℕ) (places : List ℕ) (k : ℕ) (rows : List Row) → Good n rows → AllByRecursion (λ c. Good n c.rows) (split k n places rows)
 good_children n places k rows g =
     children_keep n places (Good n)
     (λ test rows g. record { state = state_kept test rows g.state; numbered = all_kept_by test (Packed n) rows g.numbered })
@@ -186,7 +181,7 @@ weight_first b r rs a =
     let e : cond (eqb r.sequence r.sequence) (weight b r) 0 ≡ weight b r = ap (λ t. cond t (weight b r) 0) (eq-eqb r.sequence r.sequence refl) in
     omega arith
 
-pub weight_rows : (b : ℕ) (rows : List Row) → Ascending rows → All (λ r. weight_of b r.sequence rows ≡ weight b r) rows
+pub weight_rows : (b : ℕ) (rows : List Row) → Ascending rows → AllByRecursion (λ r. weight_of b r.sequence rows ≡ weight b r) rows
 weight_rows b [] a = tt
 weight_rows b (x ∷ xs) a =
     (weight_first b x xs a, later x.sequence xs a (weight_rows b xs (ascending_above x.sequence xs a)) (omega arith))
@@ -197,7 +192,7 @@ weight_rows b (x ∷ xs) a =
         ∙ ap (λ t. cond t (weight b x) 0 + weight_of b r.sequence xs) (ne_eqb x.sequence r.sequence (λ e. omega arith))
         ∙ zero-add (weight_of b r.sequence xs)
 
-    later : (y : ℕ) (rs : List Row) → Above y rs → All (λ r. weight_of b r.sequence xs ≡ weight b r) rs → x.sequence ≤ y → All (λ r. weight_of b r.sequence (x ∷ xs) ≡ weight b r) rs
+    later : (y : ℕ) (rs : List Row) → Above y rs → AllByRecursion (λ r. weight_of b r.sequence xs ≡ weight b r) rs → x.sequence ≤ y → AllByRecursion (λ r. weight_of b r.sequence (x ∷ xs) ≡ weight b r) rs
     later y [] u h l = tt
     later y (r ∷ rs) u h l =
         let k = u.0 in

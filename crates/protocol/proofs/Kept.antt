@@ -1,5 +1,5 @@
 -- All that is promised of a certified protocol.
-use Rattle.protocol.specs.Promises.{Promise, Kept}
+use Rattle.protocol.specs.Promises.{Kept}
 use Rattle.protocol.proofs.Scan.{faultless_nodes}
 use Rattle.protocol.proofs.Classes.{classes}
 use Rattle.protocol.proofs.Certified.{correct_from}

@@ -1,6 +1,6 @@
 -- What each line of a script makes of a state.
 use Rattle.std.proofs.Common.{subst}
-use Rattle.script.specs.Model.{permute, shuffle, LawfulAction}
+use Rattle.script.specs.Model.{LawfulAction}
 use Rattle.protocol.specs.Machine.{permuting, shuffling}
 use Rattle.protocol.specs.Promises.{StatesOfLines}
 use Rattle.protocol.proofs.TreeSum.{inward_permuting, inward_shuffling}

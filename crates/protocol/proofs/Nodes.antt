@@ -1,20 +1,17 @@
 -- What holds of all nodes of a tree, and that a node is known by its line and trace.
-use Rattle.std.proofs.Common.{◌≡◌, ℕ, zero, suc, ◌+◌, ◌-◌, ◌*◌, ◌^◌, ◌<◌, ◌≤◌, Bool, true, false, cond, not, ◌&&◌, ◌||◌, ◌⊎◌, List, [], ◌∷◌, ◌++◌, length, get_or, Some, None, sum_by, filter, Option, sym, refl, ap, ◌∙◌, subst, inl, inr, le_refl, add-zero, mul-zero, zero-add, arith}
-use mathlib.Core.Path.{fun_ext}
-use Rattle.std.specs.List.{AllByRecursion as All}
+use Rattle.std.proofs.Common.{◌≡◌, ℕ, zero, suc, ◌+◌, ◌≤◌, true, false, cond, not, List, [], ◌∷◌, ◌++◌, length, Some, None, filter, Option, sym, refl, ap, ◌∙◌, subst, arith}
+use Rattle.std.specs.List.{AllByRecursion}
 use Rattle.std.proofs.ByRecursion.{All-append, All-weaker, all_kept_by, kept_by_passes}
-use Rattle.std.proofs.lemmas.List.{append-nil, append_assoc, append_cancel_left}
-use Rattle.std.proofs.lemmas.List.Sums.{sum_by-cons, sum_by-append}
+use Rattle.std.proofs.lemmas.List.{append_assoc}
 use Rattle.std.proofs.lemmas.Bool.{false≢true, not-true}
-use Rattle.script.specs.Model.{Branch, Action, permute, shuffle, turn, committed, opened, none, Onward, LawfulBranch, LawfulAction}
-use Rattle.protocol.specs.Machine.{Protocol, LawfulProtocol, inputs, action_at, Mixing, permuting, shuffling, marks_at, same, target, Trace, is_result}
+use Rattle.script.specs.Model.{Branch, Action, permute, shuffle, turn, committed, opened, none, Onward, LawfulAction}
+use Rattle.protocol.specs.Machine.{Protocol, LawfulProtocol, action_at, Mixing, permuting, shuffling, same, target, Trace}
 use Rattle.protocol.specs.States.{Row, shows, is_shown, least_shown, before, Child, split, children}
-use Rattle.protocol.specs.Tree.{Node, Event, made, missing, nodes_in, mixed_node, child_node, child_events, turn_events, events_below, subtree}
-use Rattle.protocol.proofs.Sums.{sumBy_zero}
+use Rattle.protocol.specs.Tree.{Node, Event, nodes_in, mixed_node, child_node, child_events, turn_events, events_below, subtree}
 use Rattle.protocol.proofs.Same.{same_refl}
 use Rattle.protocol.proofs.TreeSum.{OnScript, lawful_at, onward, target_onward, nodes_append}
 
-pub all_of : {X : Type 0} (P : X → Type 0) → ((x : X) → P x) → (xs : List X) → All P xs
+pub all_of : {X : Type 0} (P : X → Type 0) → ((x : X) → P x) → (xs : List X) → AllByRecursion P xs
 all_of P h [] = tt
 all_of P h (x ∷ xs) = (h x, all_of P h xs)
 
@@ -35,24 +32,24 @@ ByMixing p P = (u : Node) (m : Mixing) → Mixes p u.line (action_at p u.line) m
 abbrev pub ByTurn : Protocol → (Node → Type 0) → Type 0
 ByTurn p P =
     (u : Node) (places : List ℕ) (branches : List Branch) → action_at p u.line ≡ turn places branches → P u
-    → All (λ c. (number l : ℕ) → target c.marks branches ≡ Some l → P (child_node u c number l)) (children p.script.cards places u.rows)
+    → AllByRecursion (λ c. (number l : ℕ) → target c.marks branches ≡ Some l → P (child_node u c number l)) (children p.script.cards places u.rows)
 
 module _ (p : Protocol) (P : Node → Type 0) (mixing : ByMixing p P) (turning : ByTurn p P) where
-  all_child : (grow : Node → List Event) → ((u : Node) → P u → All P (nodes_in (grow u))) → (u : Node) (c : Child) (number : ℕ) (o : Option ℕ) → ((l : ℕ) → o ≡ Some l → P (child_node u c number l)) → All P (nodes_in (child_events grow u c number o))
+  all_child : (grow : Node → List Event) → ((u : Node) → P u → AllByRecursion P (nodes_in (grow u))) → (u : Node) (c : Child) (number : ℕ) (o : Option ℕ) → ((l : ℕ) → o ≡ Some l → P (child_node u c number l)) → AllByRecursion P (nodes_in (child_events grow u c number o))
   all_child grow ih u c number None h = tt
   all_child grow ih u c number (Some l) h = ih (child_node u c number l) (h l refl)
 
-  all_turn : (grow : Node → List Event) → ((u : Node) → P u → All P (nodes_in (grow u))) → (branches : List Branch) (u : Node) (number : ℕ) (cs : List Child) → All (λ c. (number l : ℕ) → target c.marks branches ≡ Some l → P (child_node u c number l)) cs → All P (nodes_in (turn_events grow branches u number cs))
+  all_turn : (grow : Node → List Event) → ((u : Node) → P u → AllByRecursion P (nodes_in (grow u))) → (branches : List Branch) (u : Node) (number : ℕ) (cs : List Child) → AllByRecursion (λ c. (number l : ℕ) → target c.marks branches ≡ Some l → P (child_node u c number l)) cs → AllByRecursion P (nodes_in (turn_events grow branches u number cs))
   all_turn grow ih branches u number [] h = tt
   all_turn grow ih branches u number (c ∷ cs) h =
       let es : List Event = child_events grow u c number (target c.marks branches) in
       let later : List Event = turn_events grow branches u (number + length (nodes_in es)) cs in
-      subst (All P) (sym (nodes_append es later))
+      subst (AllByRecursion P) (sym (nodes_append es later))
       (All-append P (nodes_in es) (nodes_in later)
       (all_child grow ih u c number (target c.marks branches) (h.0 number))
       (all_turn grow ih branches u (number + length (nodes_in es)) cs h.1))
 
-  all_below : (grow : Node → List Event) → ((u : Node) → P u → All P (nodes_in (grow u))) → (u : Node) → P u → (action : Action) → action_at p u.line ≡ action → All P (nodes_in (events_below grow p u action))
+  all_below : (grow : Node → List Event) → ((u : Node) → P u → AllByRecursion P (nodes_in (grow u))) → (u : Node) → P u → (action : Action) → action_at p u.line ≡ action → AllByRecursion P (nodes_in (events_below grow p u action))
   all_below grow ih u h (permute images next) e =
       ih (mixed_node p (permuting images next) u) (mixing u (permuting images next) (rw e refl) h)
   all_below grow ih u h (shuffle total next) e =
@@ -64,7 +61,7 @@ module _ (p : Protocol) (P : Node → Type 0) (mixing : ByMixing p P) (turning :
   all_below grow ih u h none e = tt
 
   -- what passes from node to node holds in the whole subtree
-  pub all_nodes : (k : ℕ) (u : Node) → P u → All P (nodes_in (subtree k p u))
+  pub all_nodes : (k : ℕ) (u : Node) → P u → AllByRecursion P (nodes_in (subtree k p u))
   unfolding subtree
   all_nodes zero u h = tt
   all_nodes (suc k) u h = (h, all_below (subtree k p) (all_nodes k) u h (action_at p u.line) refl)
@@ -90,7 +87,7 @@ turn_later p ok l on places branches e marks t h =
     subst (LawfulAction p.script.cards p.script.lines l) e (lawful_at p ok l on) in
     target_onward p.script.lines l (length places) marks branches t law.1.1 h
 
-pub descend : (p : Protocol) → LawfulProtocol p → (k : ℕ) (u : Node) (l : ℕ) (trace : Trace) → Descends p l trace u → All (Descends p l trace) (nodes_in (subtree k p u))
+pub descend : (p : Protocol) → LawfulProtocol p → (k : ℕ) (u : Node) (l : ℕ) (trace : Trace) → Descends p l trace u → AllByRecursion (Descends p l trace) (nodes_in (subtree k p u))
 descend p ok k u l trace h = all_nodes p (Descends p l trace) mixing turning k u h
   where
     mixing : ByMixing p (Descends p l trace)
@@ -119,9 +116,9 @@ descend p ok k u l trace h = all_nodes p (Descends p l trace) mixing turning k u
 -- The children of a turn have different marks.
 abbrev pub Apart : List Child → Type 0
 Apart [] = Unit
-Apart (c ∷ cs) = All (λ d. d.marks ≡ c.marks → ⊥) cs × Apart cs
+Apart (c ∷ cs) = AllByRecursion (λ d. d.marks ≡ c.marks → ⊥) cs × Apart cs
 
-least_keeps : (n : ℕ) (places marks : List ℕ) (Q : List ℕ → Type 0) → Q marks → (rs : List Row) → All (λ r. Q (shows n places r)) rs → Q (least_shown n places marks rs)
+least_keeps : (n : ℕ) (places marks : List ℕ) (Q : List ℕ → Type 0) → Q marks → (rs : List Row) → AllByRecursion (λ r. Q (shows n places r)) rs → Q (least_shown n places marks rs)
 least_keeps n places marks Q h [] all = h
 least_keeps n places marks Q h (r ∷ rs) all =
     least_keeps n places (cond (before (shows n places r) marks) (shows n places r) marks) Q
@@ -129,7 +126,7 @@ least_keeps n places marks Q h (r ∷ rs) all =
     rs all.1
 
 -- what all rows show, the marks of all children are
-pub marks_keep : (n : ℕ) (places : List ℕ) (Q : List ℕ → Type 0) (k : ℕ) (rs : List Row) → All (λ r. Q (shows n places r)) rs → All (λ c. Q c.marks) (split k n places rs)
+pub marks_keep : (n : ℕ) (places : List ℕ) (Q : List ℕ → Type 0) (k : ℕ) (rs : List Row) → AllByRecursion (λ r. Q (shows n places r)) rs → AllByRecursion (λ c. Q c.marks) (split k n places rs)
 marks_keep n places Q zero rs all = tt
 marks_keep n places Q (suc k) [] all = tt
 marks_keep n places Q (suc k) (r ∷ rs) all = (

@@ -1,5 +1,5 @@
 -- Nodes are numbered in the order in which they are made, and the certificate is read off them.
-use Rattle.std.proofs.Common.{◌≡◌, ℕ, zero, suc, ◌+◌, ◌-◌, ◌<◌, ◌≤◌, Bool, true, false, cond, ◌↔◌, List, [], ◌∷◌, ◌++◌, map, length, is_some, Some, None, Ok, Err, Option, Result, sym, refl, ap, ◌∙◌, subst, add-zero, zero-add, arith, length-append}
+use Rattle.std.proofs.Common.{◌≡◌, ℕ, zero, suc, ◌+◌, Bool, List, [], ◌∷◌, ◌++◌, map, length, Some, None, Ok, Err, Option, sym, refl, ap, ◌∙◌, add-zero, zero-add, arith, length-append}
 use Rattle.std.specs.List.{range_with_len}
 use Rattle.std.specs.Option.{option_or}
 use Rattle.std.proofs.lemmas.List.{map-append}
@@ -7,10 +7,10 @@ use Rattle.script.specs.Model.{Branch, Action, permute, shuffle, turn, committed
 use Rattle.script.specs.Faults.{Fault}
 use Rattle.protocol.specs.Machine.{Protocol, action_at, permuting, shuffling, target}
 use Rattle.protocol.specs.States.{Child, children, leaks}
-use Rattle.protocol.specs.Tree.{Node, Event, made, missing, nodes_in, mixed_node, child_node, child_events, turn_events, events_below, subtree, events, nodes, root, offence, Certificate, noted, noted_event, noted_number, is_wrong, or_fault, scan, certify, blank}
-use Rattle.protocol.specs.Promises.{first_offence, first_number, ReadOff, AlwaysReadOff}
+use Rattle.protocol.specs.Tree.{Node, Event, nodes_in, mixed_node, child_node, child_events, turn_events, events_below, subtree, events, nodes, root, offence, Certificate, noted, noted_event, noted_number, is_wrong, or_fault, scan, certify, blank}
+use Rattle.protocol.specs.Promises.{first_offence, first_number, AlwaysReadOff}
 use Rattle.protocol.proofs.TreeSum.{nodes_append}
-use Rattle.protocol.proofs.Scan.{Built, certify_built, noted_all}
+use Rattle.protocol.proofs.Scan.{certify_built, noted_all}
 
 counting_append : (a m n : ℕ) → range_with_len a (m + n) ≡ range_with_len a m ++ range_with_len (a + m) n
 counting_append a zero n = rw (zero-add, add-zero)

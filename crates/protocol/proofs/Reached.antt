@@ -1,21 +1,20 @@
 -- Node by node: weights and totals count the draw lists that bring the machine to a node.
-use Rattle.std.proofs.Common.{◌≡◌, ℕ, zero, suc, ◌+◌, ◌-◌, ◌*◌, ◌^◌, ◌<◌, ◌≤◌, Bool, true, false, cond, not, ◌&&◌, ◌||◌, eqb, ltb, ◌⊎◌, List, [], ◌∷◌, ◌++◌, length, get_or, Some, None, sum_by, Option, sym, refl, ap, ◌∙◌, subst, inl, inr, le_trans, le_refl, mul-zero, mul-one, arith, lit≤, pow_mono, eq-eqb, eqb-true}
-use Rattle.std.specs.List.{AllByRecursion as All}
+use Rattle.std.proofs.Common.{◌≡◌, ℕ, zero, suc, ◌*◌, ◌<◌, ◌≤◌, Bool, true, false, cond, ◌&&◌, eqb, ltb, List, [], ◌∷◌, ◌++◌, length, Some, None, sum_by, Option, sym, refl, ap, ◌∙◌, subst, le_trans, le_refl, mul-zero, mul-one, arith, lit≤, pow_mono, eq-eqb, eqb-true}
+use Rattle.std.specs.List.{AllByRecursion}
 use Rattle.std.proofs.ByRecursion.{All-weaker}
-use Rattle.std.proofs.lemmas.List.{append-nil}
-use Rattle.std.proofs.lemmas.Bool.{and_parts, and_from, and_left, or_from, cases_Bool, false≢true}
+use Rattle.std.proofs.lemmas.Bool.{and_parts, and_from, or_from, false≢true}
 use Rattle.cards.specs.Rows.{packed}
-use Rattle.script.specs.Model.{Branch, Action, permute, shuffle, turn, committed, opened, none, Onward, LawfulAction}
-use Rattle.protocol.specs.Machine.{Protocol, LawfulProtocol, inputs, action_at, laid, Mixing, permuting, shuffling, moved, marks_at, target, Trace, same_trace, Run, drawn, branched, acted, spent, or_passes, passes, begun, run_passes, is_result, ends_with, stands, holds, counts, ways, one_if, reached, reached_with}
-use Rattle.protocol.specs.States.{Row, weight, weight_of, cards_of, start_state, mixed, children, total_of, State}
-use Rattle.protocol.specs.Tree.{Node, nodes_in, mixed_node, child_node, subtree, root, events, nodes}
+use Rattle.script.specs.Model.{Action, permute, shuffle, turn, committed, opened, none, Onward, LawfulAction}
+use Rattle.protocol.specs.Machine.{Protocol, LawfulProtocol, inputs, action_at, Mixing, permuting, shuffling, moved, marks_at, target, Trace, same_trace, Run, drawn, branched, acted, spent, or_passes, passes, is_result, stands, holds, ways, one_if, reached_with}
+use Rattle.protocol.specs.States.{Row, weight, weight_of, cards_of, children, total_of}
+use Rattle.protocol.specs.Tree.{Node, child_node, root, events, nodes}
 use Rattle.protocol.specs.Promises.{Counted, NodeByNode}
-use Rattle.protocol.proofs.Sums.{sumBy_all, times_one}
+use Rattle.protocol.proofs.Sums.{sum_by_all, times_one}
 use Rattle.protocol.proofs.Same.{same_trace_refl, same_trace_true, false_from}
-use Rattle.protocol.proofs.Weighed.{weighed, weighed_start, weighed_const, weighed_ext, Inward}
-use Rattle.protocol.proofs.TreeSum.{OnScript, lawful_at, onward, target_onward, Single, run_at, worth_at, met_at, TreeSum, tree_sum, inward_permuting, inward_shuffling}
-use Rattle.protocol.proofs.Nodes.{all_of, all_nodes, Mixes, ByMixing, ByTurn, Descends, descend, mixing_later, turn_later}
-use Rattle.protocol.proofs.Sole.{Likeness, Foreign, Sole, sole_node}
+use Rattle.protocol.proofs.Weighed.{weighed_start, weighed_const, weighed_ext, Inward}
+use Rattle.protocol.proofs.TreeSum.{OnScript, lawful_at, onward, target_onward, Single, run_at, worth_at, met_at, tree_sum, inward_permuting, inward_shuffling}
+use Rattle.protocol.proofs.Nodes.{all_nodes, Mixes, ByMixing, ByTurn, Descends, descend, mixing_later, turn_later}
+use Rattle.protocol.proofs.Sole.{Likeness, Sole, sole_node}
 use Rattle.protocol.proofs.Good.{Packed, Good, good_start, good_mixed, good_children, weight_rows}
 
 pub few_inputs : (p : Protocol) → LawfulProtocol p → inputs p ≤ 8
@@ -141,7 +140,7 @@ single_holds p ok l t x =
     (λ r e. line_of_stands l t r (and_parts (stands l t r) (eqb (packed p.script.cards r.cards) x) e).0)
 
 -- all nodes of a tree are at lines of the script, and have good states
-pub nodes_on : (p : Protocol) → LawfulProtocol p → All (λ u. OnScript p u.line) (nodes p)
+pub nodes_on : (p : Protocol) → LawfulProtocol p → AllByRecursion (λ u. OnScript p u.line) (nodes p)
 unfolding events
 nodes_on p ok =
     All-weaker (Descends p 2 []) (λ u. OnScript p u.line) (λ u d. d.on) (nodes p)
@@ -159,7 +158,7 @@ mixing_inward p ok l none law m e = absurd e
 abbrev OnGood : Protocol → Node → Type 0
 OnGood p u = OnScript p u.line × Good p.script.cards u.rows
 
-pub nodes_good : (p : Protocol) → LawfulProtocol p → All (λ u. Good p.script.cards u.rows) (nodes p)
+pub nodes_good : (p : Protocol) → LawfulProtocol p → AllByRecursion (λ u. Good p.script.cards u.rows) (nodes p)
 unfolding events
 nodes_good p ok =
     All-weaker (OnGood p) (λ u. Good p.script.cards u.rows) (λ u h. h.1) (nodes p)
@@ -181,8 +180,8 @@ nodes_good p ok =
         (good_children p.script.cards places (length u.rows) u.rows h.1)
 
 -- the weight of the rows of a node with a sequence
-held_weight : (p : Protocol) (b : ℕ) (u : Node) (x : ℕ) → All (Packed p.script.cards) u.rows → met_at p b (holds p u.line u.trace x) u ≡ weight_of b x u.rows
-held_weight p b u x h = sumBy_all (λ r. weight b r * one_if (holds p u.line u.trace x (run_at u (cards_of n r) []))) (λ r. cond (eqb r.sequence x) (weight b r) 0) u.rows (All-weaker (Packed n) (λ r. weight b r * one_if (holds p u.line u.trace x (run_at u (cards_of n r) [])) ≡ cond (eqb r.sequence x) (weight b r) 0) each u.rows h)
+held_weight : (p : Protocol) (b : ℕ) (u : Node) (x : ℕ) → AllByRecursion (Packed p.script.cards) u.rows → met_at p b (holds p u.line u.trace x) u ≡ weight_of b x u.rows
+held_weight p b u x h = sum_by_all (λ r. weight b r * one_if (holds p u.line u.trace x (run_at u (cards_of n r) []))) (λ r. cond (eqb r.sequence x) (weight b r) 0) u.rows (All-weaker (Packed n) (λ r. weight b r * one_if (holds p u.line u.trace x (run_at u (cards_of n r) [])) ≡ cond (eqb r.sequence x) (weight b r) 0) each u.rows h)
   where
     n : ℕ
     n = p.script.cards
@@ -222,11 +221,11 @@ module _ (p : Protocol) (ok : LawfulProtocol p) (b : ℕ) (h : b < inputs p) whe
           (λ r e. (and_parts (stands u.line u.trace r) (eqb (packed p.script.cards r.cards) x) e).0)
           ∙ held_weight p b u x good.numbered)
 
-pub all_both : {X : Type 0} (P Q R : X → Type 0) → ((x : X) → P x → Q x → R x) → (xs : List X) → All P xs → All Q xs → All R xs
+pub all_both : {X : Type 0} (P Q R : X → Type 0) → ((x : X) → P x → Q x → R x) → (xs : List X) → AllByRecursion P xs → AllByRecursion Q xs → AllByRecursion R xs
 all_both P Q R f [] a b = tt
 all_both P Q R f (x ∷ xs) a b = (f x a.0 b.0, all_both P Q R f xs a.1 b.1)
 
-pub nodes_sole : (p : Protocol) → LawfulProtocol p → All (Sole (λ v. Unit) OneStand (nodes p)) (nodes p)
+pub nodes_sole : (p : Protocol) → LawfulProtocol p → AllByRecursion (Sole (λ v. Unit) OneStand (nodes p)) (nodes p)
 unfolding events
 nodes_sole p ok = sole_node p ok (λ v. Unit) OneStand (one_stand p) p.script.lines (root p) (root_on p ok)
 

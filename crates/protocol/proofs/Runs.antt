@@ -1,9 +1,9 @@
 -- Runs: what a run passes is what it comes to after some number of steps.
-use Rattle.std.proofs.Common.{◌≡◌, ℕ, zero, suc, ◌+◌, ◌-◌, ◌*◌, ◌^◌, ◌<◌, ◌≤◌, Bool, true, false, cond, not, ◌&&◌, ◌||◌, eqb, ltb, ◌⊎◌, List, [], ◌∷◌, ◌++◌, length, get_or, Some, None, Option, sym, refl, ap, ◌∙◌, subst, inl, inr, arith, ltb-true}
-use Rattle.std.specs.List.{AllByRecursion as All}
+use Rattle.std.proofs.Common.{◌≡◌, ℕ, zero, suc, ◌+◌, ◌<◌, ◌≤◌, Bool, true, false, cond, ◌&&◌, ltb, List, [], ◌∷◌, ◌++◌, length, Some, None, Option, sym, refl, ap, ◌∙◌, subst, inl, inr, arith, ltb-true}
+use Rattle.std.specs.List.{AllByRecursion}
 use Rattle.std.proofs.lemmas.Bool.{false≢true, and_parts, and_from, or_left, or_right, or_cases, cases_lt, cases_eq}
-use Rattle.script.specs.Model.{Branch, Action, permute, shuffle, turn, committed, opened, none, Onward, LawfulAction}
-use Rattle.protocol.specs.Machine.{Protocol, LawfulProtocol, action_at, Mixing, permuting, shuffling, moved, marks_at, target, Trace, Run, drawn, branched, acted, and_then, advanced, spent, or_passes, passes, sum_below, count, counts, one_if}
+use Rattle.script.specs.Model.{Action, permute, shuffle, turn, committed, opened, none, LawfulAction}
+use Rattle.protocol.specs.Machine.{Protocol, LawfulProtocol, action_at, Mixing, permuting, shuffling, moved, marks_at, target, Run, drawn, branched, acted, and_then, advanced, spent, or_passes, passes, sum_below, count, counts, one_if}
 use Rattle.protocol.proofs.TreeSum.{OnScript, lawful_at, onward}
 use Rattle.protocol.proofs.Reached.{acted_onward}
 
@@ -63,22 +63,22 @@ pub record Used (p : Protocol) (k : ℕ) (r q : Run) : Type 0 where
   pub later : r.line + k ≤ q.line
   pub on : OnScript p q.line
   pub few : length r.draws ≤ length q.draws + k
-  pub small : All Small q.draws → All Small r.draws
+  pub small : AllByRecursion Small q.draws → AllByRecursion Small r.draws
 
-drawn_used : (m : Mixing) (r q : Run) (ds : List ℕ) → m.total ≤ 65535 → drawn m r ds ≡ Some q → (length ds ≤ length q.draws + 1) × (All Small q.draws → All Small ds)
+drawn_used : (m : Mixing) (r q : Run) (ds : List ℕ) → m.total ≤ 65535 → drawn m r ds ≡ Some q → (length ds ≤ length q.draws + 1) × (AllByRecursion Small q.draws → AllByRecursion Small ds)
 drawn_used m r q [] h e = absurd (let z : ◌≡◌ {A = ℕ} 0 1 = cc in omega arith)
 drawn_used m r q (d ∷ ds) h e = go (ltb d m.total) refl e
   where
-    go : (t : Bool) → ltb d m.total ≡ t → cond t (Some (record { line = m.next; cards = moved m d r.cards; trace = r.trace; draws = ds })) None ≡ Some q → (suc (length ds) ≤ length q.draws + 1) × (All Small q.draws → All Small (d ∷ ds))
+    go : (t : Bool) → ltb d m.total ≡ t → cond t (Some (record { line = m.next; cards = moved m d r.cards; trace = r.trace; draws = ds })) None ≡ Some q → (suc (length ds) ≤ length q.draws + 1) × (AllByRecursion Small q.draws → AllByRecursion Small (d ∷ ds))
     go true l f =
         let g : record { line = m.next; cards = moved m d r.cards; trace = r.trace; draws = ds } ≡ q = cc in
         let same : ds ≡ q.draws = ap (λ (x : Run). x.draws) g in
         let k = ltb-true d m.total l in
-        (let n = ap length same in omega arith, λ all. (omega arith, subst (All Small) (sym same) all))
+        (let n = ap length same in omega arith, λ all. (omega arith, subst (AllByRecursion Small) (sym same) all))
     go false l f = absurd (let z : ◌≡◌ {A = ℕ} 0 1 = cc in omega arith)
 
-kept_used : (r q : Run) → r.draws ≡ q.draws → (length r.draws ≤ length q.draws + 1) × (All Small q.draws → All Small r.draws)
-kept_used r q e = (let n = ap length e in omega arith, λ all. subst (All Small) (sym e) all)
+kept_used : (r q : Run) → r.draws ≡ q.draws → (length r.draws ≤ length q.draws + 1) × (AllByRecursion Small q.draws → AllByRecursion Small r.draws)
+kept_used r q e = (let n = ap length e in omega arith, λ all. subst (AllByRecursion Small) (sym e) all)
 
 branched_used : (r q : Run) (marks : List ℕ) (o : Option ℕ) → branched r marks o ≡ Some q → r.draws ≡ q.draws
 branched_used r q marks None e = absurd (let z : ◌≡◌ {A = ℕ} 0 1 = cc in omega arith)
@@ -86,7 +86,7 @@ branched_used r q marks (Some t) e =
     let g : record { line = t; cards = r.cards; trace = r.trace ++ marks ∷ []; draws = r.draws } ≡ q = cc in
     ap (λ (x : Run). x.draws) g
 
-step_used : (p : Protocol) (r q : Run) (action : Action) → LawfulAction p.script.cards p.script.lines r.line action → acted p r action ≡ Some q → (length r.draws ≤ length q.draws + 1) × (All Small q.draws → All Small r.draws)
+step_used : (p : Protocol) (r q : Run) (action : Action) → LawfulAction p.script.cards p.script.lines r.line action → acted p r action ≡ Some q → (length r.draws ≤ length q.draws + 1) × (AllByRecursion Small q.draws → AllByRecursion Small r.draws)
 step_used p r q (permute images next) law e =
     let g : record { line = next; cards = moved (permuting images next) 0 r.cards; trace = r.trace; draws = r.draws } ≡ q = cc in
     kept_used r q (ap (λ (x : Run). x.draws) g)
@@ -108,7 +108,7 @@ used p ok zero r q on e =
       later = omega arith;
       on = subst (OnScript p) l on;
       few = (let n = ap length s in omega arith);
-      small = λ all. subst (All Small) (sym s) all;
+      small = λ all. subst (AllByRecursion Small) (sym s) all;
     }
 used p ok (suc k) r q on e = go (step p r) refl e (λ x. used p ok k x q)
   where
@@ -137,7 +137,7 @@ sum_nothing (suc n) f e d h =
       | inr l ↦ let q : d ≡ n = omega arith in rw q (omega arith)
     ]
 
-count_nothing : (n m : ℕ) (test : List ℕ → Bool) → count n m test ≡ 0 → (ds : List ℕ) → length ds ≡ m → All (λ d. d < n) ds → test ds ≡ false
+count_nothing : (n m : ℕ) (test : List ℕ → Bool) → count n m test ≡ 0 → (ds : List ℕ) → length ds ≡ m → AllByRecursion (λ d. d < n) ds → test ds ≡ false
 unfolding count
 count_nothing n zero test e [] l all = go (test []) e
   where
@@ -149,7 +149,7 @@ count_nothing n (suc m) test e [] l all = absurd (omega arith)
 count_nothing n (suc m) test e (d ∷ ds) l all =
     count_nothing n m (λ xs. test (d ∷ xs)) (sum_nothing n (λ x. count n m (λ xs. test (x ∷ xs))) e d all.0) ds (omega arith) all.1
 
-pub counts_nothing : (n m : ℕ) (test : List ℕ → Bool) → counts n m test ≡ 0 → (ds : List ℕ) → length ds ≤ m → All (λ d. d < n) ds → test ds ≡ false
+pub counts_nothing : (n m : ℕ) (test : List ℕ → Bool) → counts n m test ≡ 0 → (ds : List ℕ) → length ds ≤ m → AllByRecursion (λ d. d < n) ds → test ds ≡ false
 unfolding counts
 counts_nothing n zero test e ds l all = count_nothing n zero test e ds (omega arith) all
 counts_nothing n (suc m) test e ds l all =

@@ -1,8 +1,8 @@
 -- A tree that is built: no event offends, and the certificate is what all its nodes were noted to.
-use Rattle.std.proofs.Common.{◌≡◌, ℕ, zero, suc, ◌+◌, ◌-◌, ◌*◌, ◌^◌, ◌<◌, ◌≤◌, Bool, true, false, cond, not, ◌&&◌, ◌||◌, List, [], ◌∷◌, ◌++◌, is_some, Some, None, Ok, Err, Option, Result, sym, refl, ap, ◌∙◌, subst, arith}
+use Rattle.std.proofs.Common.{◌≡◌, ℕ, Bool, true, false, not, List, [], ◌∷◌, ◌++◌, is_some, Some, None, Ok, Err, Option, Result, sym, refl, ap, ◌∙◌, arith}
 use Rattle.std.specs.Option.{option_or}
-use Rattle.std.specs.List.{AllByRecursion as All}
-use Rattle.std.proofs.lemmas.Bool.{false≢true, and_parts, and_from, not-true, not-false, not_from_false}
+use Rattle.std.specs.List.{AllByRecursion}
+use Rattle.std.proofs.lemmas.Bool.{false≢true, and_parts, and_from, not-true, not_from_false}
 use Rattle.script.specs.Faults.{Fault}
 use Rattle.protocol.specs.Machine.{Protocol}
 use Rattle.protocol.specs.States.{leaks}
@@ -19,7 +19,7 @@ IsMade (missing l k) = ⊥
 
 pub record Built (p : Protocol) (es : List Event) (c d : Certificate) : Type 0 where
   pub certificate : d ≡ noted_all p (nodes_in es) c
-  pub made_all : All IsMade es
+  pub made_all : AllByRecursion IsMade es
 
 scan_built : (p : Protocol) (bench : ℕ) (es : List Event) (c d : Certificate) → scan p bench es c ≡ Ok d → Built p es c d
 unfolding scan
@@ -63,22 +63,22 @@ module _ (p : Protocol) (first : Certificate → Option ℕ) (test : Node → Bo
   none_after None u e f = ap (λ t. is_some (noted_number t u.number)) f
   none_after (Some x) u e f = absurd (false≢true (sym e))
 
-  pub none_noted : (us : List Node) (c : Certificate) → is_some (first (noted_all p us c)) ≡ false → (is_some (first c) ≡ false) × All (λ u. test u ≡ false) us
+  pub none_noted : (us : List Node) (c : Certificate) → is_some (first (noted_all p us c)) ≡ false → (is_some (first c) ≡ false) × AllByRecursion (λ u. test u ≡ false) us
   none_noted [] c e = (e, tt)
   none_noted (u ∷ us) c e =
       let ih = none_noted us (noted p u c) e in
       let h = none_before (first c) u (sym (ap is_some (step u c)) ∙ ih.0) in
       (h.0, (h.1, ih.1))
 
-  pub noted_none : (us : List Node) (c : Certificate) → is_some (first c) ≡ false → All (λ u. test u ≡ false) us → is_some (first (noted_all p us c)) ≡ false
+  pub noted_none : (us : List Node) (c : Certificate) → is_some (first c) ≡ false → AllByRecursion (λ u. test u ≡ false) us → is_some (first (noted_all p us c)) ≡ false
   noted_none [] c e h = e
   noted_none (u ∷ us) c e h =
       noted_none us (noted p u c) (ap is_some (step u c) ∙ none_after (first c) u e h.0) h.1
 
 -- a built tree is certified exactly when no node is wrong and none leaks
 pub record Faultless (p : Protocol) : Type 0 where
-  pub right : All (λ u. is_wrong p u ≡ false) (nodes p)
-  pub tight : All (λ u. leaks p u.rows ≡ false) (nodes p)
+  pub right : AllByRecursion (λ u. is_wrong p u ≡ false) (nodes p)
+  pub tight : AllByRecursion (λ u. leaks p u.rows ≡ false) (nodes p)
 
 pub faultless_nodes : (p : Protocol) (bench : ℕ) (c : Certificate) → certify p bench ≡ Ok c → faultless c ≡ true → Faultless p
 faultless_nodes p bench c e f =

@@ -1,8 +1,8 @@
 -- Laws of sums over numbers and lists, and of counting lists.
-use Rattle.std.proofs.Common.{◌≡◌, ℕ, zero, suc, ◌+◌, ◌-◌, ◌*◌, ◌<◌, ◌≤◌, Bool, true, false, cond, ◌||◌, ltb, ◌⊎◌, List, [], ◌∷◌, ◌++◌, length, sum_by, sym, refl, ap, ◌∙◌, inl, inr, add-zero, mul-zero, zero-add, mul-one, mul-add, arith, le-ltb, lt-ltb}
+use Rattle.std.proofs.Common.{◌≡◌, ℕ, zero, suc, ◌+◌, ◌-◌, ◌*◌, ◌<◌, ◌≤◌, Bool, true, false, cond, ltb, List, [], ◌∷◌, sum_by, sym, refl, ap, ◌∙◌, inl, inr, mul-zero, mul-one, mul-add, arith, le-ltb, lt-ltb}
 use mathlib.Core.Path.{fun_ext}
-use Rattle.std.specs.List.{AllByRecursion as All}
-use Rattle.std.proofs.lemmas.List.Sums.{sum_by-cons, sum_by-append}
+use Rattle.std.specs.List.{AllByRecursion}
+use Rattle.std.proofs.lemmas.List.Sums.{sum_by-cons}
 use Rattle.std.proofs.lemmas.Bool.{cases_lt}
 use Rattle.protocol.specs.Machine.{sum_below, count, counts, one_if}
 
@@ -64,43 +64,43 @@ sum_below_split (suc n) w f c h =
         let q : sum_below w f ≡ sum_below (suc n) f = ap (λ v. sum_below v f) e in
         rw z (omega arith)
 
-pub sumBy_all : {X : Type 0} (f g : X → ℕ) (xs : List X) → All (λ x. f x ≡ g x) xs → sum_by f xs ≡ sum_by g xs
-sumBy_all f g [] h = refl
-sumBy_all f g (x ∷ xs) h =
-    sum_by-cons f x xs ∙ ap₂' h.0 (sumBy_all f g xs h.1) ∙ sym (sum_by-cons g x xs)
+pub sum_by_all : {X : Type 0} (f g : X → ℕ) (xs : List X) → AllByRecursion (λ x. f x ≡ g x) xs → sum_by f xs ≡ sum_by g xs
+sum_by_all f g [] h = refl
+sum_by_all f g (x ∷ xs) h =
+    sum_by-cons f x xs ∙ ap₂' h.0 (sum_by_all f g xs h.1) ∙ sym (sum_by-cons g x xs)
   where
     ap₂' : {a b c d : ℕ} → a ≡ b → c ≡ d → a + c ≡ b + d
     ap₂' e k = cc
 
-pub sumBy_add : {X : Type 0} (f g : X → ℕ) (xs : List X) → sum_by (λ x. f x + g x) xs ≡ sum_by f xs + sum_by g xs
-sumBy_add f g [] = refl
-sumBy_add f g (x ∷ xs) =
-    let ih = sumBy_add f g xs in
+pub sum_by_add : {X : Type 0} (f g : X → ℕ) (xs : List X) → sum_by (λ x. f x + g x) xs ≡ sum_by f xs + sum_by g xs
+sum_by_add f g [] = refl
+sum_by_add f g (x ∷ xs) =
+    let ih = sum_by_add f g xs in
     let a = sum_by-cons (λ y. f y + g y) x xs in
     let b = sum_by-cons f x xs in
     let c = sum_by-cons g x xs in
     omega arith
 
-pub sumBy_zero : {X : Type 0} (f : X → ℕ) (xs : List X) → All (λ x. f x ≡ 0) xs → sum_by f xs ≡ 0
-sumBy_zero f [] h = refl
-sumBy_zero f (x ∷ xs) h =
-    let ih = sumBy_zero f xs h.1 in
+pub sum_by_zero : {X : Type 0} (f : X → ℕ) (xs : List X) → AllByRecursion (λ x. f x ≡ 0) xs → sum_by f xs ≡ 0
+sum_by_zero f [] h = refl
+sum_by_zero f (x ∷ xs) h =
+    let ih = sum_by_zero f xs h.1 in
     let a = sum_by-cons f x xs in
     let b = h.0 in
     omega arith
 
-pub all_zero : {X : Type 0} (f : X → ℕ) (xs : List X) → sum_by f xs ≡ 0 → All (λ x. f x ≡ 0) xs
+pub all_zero : {X : Type 0} (f : X → ℕ) (xs : List X) → sum_by f xs ≡ 0 → AllByRecursion (λ x. f x ≡ 0) xs
 all_zero f [] h = tt
 all_zero f (x ∷ xs) h =
     let a = sum_by-cons f x xs in
     (omega arith, all_zero f xs (omega arith))
 
 -- sums change places
-pub sumBy_sum_below : {X : Type 0} (n : ℕ) (f : X → ℕ → ℕ) (xs : List X) → sum_by (λ x. sum_below n (f x)) xs ≡ sum_below n (λ d. sum_by (λ x. f x d) xs)
-sumBy_sum_below n f [] = sym (sum_below_zero n)
-sumBy_sum_below n f (x ∷ xs) =
+pub sum_by_sum_below : {X : Type 0} (n : ℕ) (f : X → ℕ → ℕ) (xs : List X) → sum_by (λ x. sum_below n (f x)) xs ≡ sum_below n (λ d. sum_by (λ x. f x d) xs)
+sum_by_sum_below n f [] = sym (sum_below_zero n)
+sum_by_sum_below n f (x ∷ xs) =
     sum_by-cons (λ y. sum_below n (f y)) x xs
-    ∙ ap (λ k. sum_below n (f x) + k) (sumBy_sum_below n f xs)
+    ∙ ap (λ k. sum_below n (f x) + k) (sum_by_sum_below n f xs)
     ∙ sym (sum_below_add n (f x) (λ d. sum_by (λ y. f y d) xs))
     ∙ ap (sum_below n) (fun_ext (λ d. sym (sum_by-cons (λ y. f y d) x xs)))
 

@@ -1,16 +1,16 @@
 -- The machine and the tree: what a run passes, counted over all draws and summed over a node's rows, is found at the
 -- nodes of the subtree.
-use Rattle.std.proofs.Common.{◌≡◌, ℕ, zero, suc, ◌+◌, ◌-◌, ◌*◌, ◌^◌, ◌<◌, ◌≤◌, Bool, true, false, cond, not, ◌&&◌, ◌||◌, eqb, ltb, ◌⊎◌, List, [], ◌∷◌, ◌++◌, length, get_or, Some, None, sum_by, Option, sym, refl, ap, ◌∙◌, subst, inl, inr, le_refl, add-zero, mul-zero, zero-add, arith}
+use Rattle.std.proofs.Common.{◌≡◌, ℕ, zero, suc, ◌+◌, ◌-◌, ◌<◌, ◌≤◌, Bool, true, false, cond, ◌&&◌, ◌||◌, ltb, List, [], ◌∷◌, ◌++◌, length, Some, None, sum_by, Option, sym, refl, ap, ◌∙◌, subst, add-zero, mul-zero, zero-add, arith}
 use mathlib.Core.Path.{fun_ext}
-use Rattle.std.specs.List.{AllByRecursion as All}
+use Rattle.std.specs.List.{AllByRecursion}
 use Rattle.std.proofs.lemmas.List.Sums.{sum_by-cons, sum_by-append}
-use Rattle.std.proofs.lemmas.Bool.{cases_lt, false≢true}
+use Rattle.std.proofs.lemmas.Bool.{false≢true}
 use Rattle.script.specs.Model.{Branch, Action, permute, shuffle, turn, committed, opened, none, Onward, LawfulBranch, LawfulAction}
-use Rattle.protocol.specs.Machine.{Protocol, LawfulProtocol, inputs, action_at, Mixing, permuting, shuffling, moved, marks_at, same, target, Trace, Run, acted, advance, drawn, branched, spent, or_passes, passes, sum_below, one_if, count, counts}
-use Rattle.protocol.specs.States.{Row, weight, cards_of, Child, mixed, children}
+use Rattle.protocol.specs.Machine.{Protocol, LawfulProtocol, action_at, Mixing, permuting, shuffling, moved, marks_at, same, target, Run, acted, drawn, branched, spent, or_passes, passes, sum_below, one_if, count, counts}
+use Rattle.protocol.specs.States.{Child, children}
 use Rattle.protocol.specs.Tree.{Node, Event, made, missing, nodes_in, mixed_node, child_node, child_events, turn_events, events_below, subtree}
-use Rattle.protocol.proofs.Sums.{sum_below_split, cond_lt, cond_ge, count_none, counts_none, counts_step}
-use Rattle.protocol.proofs.Dealt.{Inside, inside_permute, inside_fitted}
+use Rattle.protocol.proofs.Sums.{sum_below_split, counts_none, counts_step}
+use Rattle.protocol.proofs.Dealt.{inside_permute, inside_fitted}
 use Rattle.protocol.proofs.Weighed.{weighed, weighed_add, weighed_ext, weighed_const, weighed_mixed, weighed_children, weighed_sum_below, Inward}
 
 -- a run at a node, with these cards and draws
@@ -87,7 +87,7 @@ SingleAt p test k u action =
     (a : List ℕ) (q : Run) → test (run_at u a []) ≡ true → acted p (run_at u a []) action ≡ Some q → passes k p test q ≡ false
 
 -- the target of a lawful branch
-pub target_onward : (lines l k : ℕ) (marks : List ℕ) (branches : List Branch) (t : ℕ) → All (LawfulBranch lines l k) branches → target marks branches ≡ Some t → Onward lines l t
+pub target_onward : (lines l k : ℕ) (marks : List ℕ) (branches : List Branch) (t : ℕ) → AllByRecursion (LawfulBranch lines l k) branches → target marks branches ≡ Some t → Onward lines l t
 target_onward lines l k marks [] t law e = absurd (let z : ◌≡◌ {A = ℕ} 0 1 = cc in omega arith)
 target_onward lines l k marks (c ∷ cs) t law e = go (same c.marks marks) e (target_onward lines l k marks cs t law.1)
   where
@@ -188,7 +188,7 @@ module _ (p : Protocol) (ok : LawfulProtocol p) (n : ℕ) (room : 65535 ≤ n) (
   child_sum m h u on c number None law = weighed_const p.script.cards b 0 c.rows ∙ mul-zero _
   child_sum m h u on c number (Some l) law = ih m (omega arith) (child_node u c number l) (onward p u.line l on (law l refl))
 
-  children_sum : (m : ℕ) → suc k ≤ m → (u : Node) → OnScript p u.line → (branches : List Branch) (t : ℕ) → All (LawfulBranch p.script.lines u.line t) branches → (number : ℕ) (cs : List Child) → sum_by (λ c. weighed p.script.cards b (branch_worth n p test k m u c.marks (target c.marks branches)) c.rows) cs ≡ sum_by (met_at p b test) (nodes_in (turn_events (subtree k p) branches u number cs))
+  children_sum : (m : ℕ) → suc k ≤ m → (u : Node) → OnScript p u.line → (branches : List Branch) (t : ℕ) → AllByRecursion (LawfulBranch p.script.lines u.line t) branches → (number : ℕ) (cs : List Child) → sum_by (λ c. weighed p.script.cards b (branch_worth n p test k m u c.marks (target c.marks branches)) c.rows) cs ≡ sum_by (met_at p b test) (nodes_in (turn_events (subtree k p) branches u number cs))
   children_sum m h u on branches t law number [] = refl
   children_sum m h u on branches t law number (c ∷ cs) =
       let es : List Event = child_events (subtree k p) u c number (target c.marks branches) in

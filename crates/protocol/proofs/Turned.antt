@@ -1,9 +1,9 @@
 -- The children of a turn.
-use Rattle.std.proofs.Common.{◌≡◌, ℕ, zero, suc, ◌+◌, ◌-◌, ◌*◌, ◌^◌, ◌<◌, ◌≤◌, Bool, true, false, cond, not, ◌&&◌, ◌||◌, eqb, ltb, ◌⊎◌, List, [], ◌∷◌, ◌++◌, length, get_or, sum_by, filter, sym, refl, ap, ◌∙◌, subst, inl, inr, le_refl, arith, ltb-false, ltb-true, le-ltb, lt-ltb, eq-eqb, eqb-true}
-use Rattle.std.specs.List.{AllByRecursion as All}
-use Rattle.std.proofs.ByRecursion.{All-weaker, all_kept_by, kept_by_passes}
+use Rattle.std.proofs.Common.{◌≡◌, ℕ, zero, suc, ◌+◌, ◌≤◌, Bool, true, false, cond, not, ◌&&◌, eqb, ltb, List, [], ◌∷◌, length, sum_by, filter, sym, refl, ap, ◌∙◌, inl, inr, le_refl, arith, ltb-true, le-ltb, lt-ltb, eq-eqb, eqb-true}
+use Rattle.std.specs.List.{AllByRecursion}
+use Rattle.std.proofs.ByRecursion.{all_kept_by, kept_by_passes}
 use Rattle.std.proofs.lemmas.List.Sums.{sum_by-cons}
-use Rattle.std.proofs.lemmas.Bool.{false≢true, cases_Bool, cases_order, and_parts, and_from, or_cases, or_parts, or_left, or_right, not-true, not-false, not_from_false, cond-true, cond-false}
+use Rattle.std.proofs.lemmas.Bool.{false≢true, cases_order, and_parts, and_from, or_cases, or_parts, or_left, or_right, not-true, not_from_false}
 use Rattle.protocol.specs.Machine.{same}
 use Rattle.protocol.specs.States.{Row, shows, is_shown, before, least_shown, Child, split, children, State}
 use Rattle.protocol.specs.Promises.{MarksAfter, MarksAscend, TurnsTo}
@@ -83,7 +83,7 @@ module _ (n : ℕ) (places : List ℕ) where
   before_itself [] = refl
   before_itself (x ∷ xs) = rw (le-ltb x x (le_refl x), eq-eqb x x refl) (before_itself xs)
 
-  least_first : (marks : List ℕ) (rs : List Row) → All (λ r. before (shows n places r) (least_shown n places marks rs) ≡ false) rs
+  least_first : (marks : List ℕ) (rs : List Row) → AllByRecursion (λ r. before (shows n places r) (least_shown n places marks rs) ≡ false) rs
   least_first marks [] = tt
   least_first marks (r ∷ rs) = (
     least_not_after (cond (before (shows n places r) marks) (shows n places r) marks) (shows n places r) rs
@@ -102,14 +102,14 @@ module _ (n : ℕ) (places : List ℕ) where
   left r rs = filter (λ x. not (is_shown n places (least r rs) x)) (r ∷ rs)
 
   -- the rows that are left show later marks
-  left_later : (r : Row) (rs : List Row) → All (λ x. before (least r rs) (shows n places x) ≡ true) (left r rs)
+  left_later : (r : Row) (rs : List Row) → AllByRecursion (λ x. before (least r rs) (shows n places x) ≡ true) (left r rs)
   left_later r rs =
       both (left r rs)
       (all_kept_by (λ x. not (is_shown n places (least r rs) x)) (λ x. before (shows n places x) (least r rs) ≡ false) (r ∷ rs)
       (least_not_after (shows n places r) (shows n places r) rs (before_itself (shows n places r)), least_first (shows n places r) rs))
       (kept_by_passes (λ x. not (is_shown n places (least r rs) x)) (r ∷ rs))
     where
-      both : (xs : List Row) → All (λ x. before (shows n places x) (least r rs) ≡ false) xs → All (λ x. not (is_shown n places (least r rs) x) ≡ true) xs → All (λ x. before (least r rs) (shows n places x) ≡ true) xs
+      both : (xs : List Row) → AllByRecursion (λ x. before (shows n places x) (least r rs) ≡ false) xs → AllByRecursion (λ x. not (is_shown n places (least r rs) x) ≡ true) xs → AllByRecursion (λ x. before (least r rs) (shows n places x) ≡ true) xs
       both [] a c = tt
       both (x ∷ xs) a c = (
         before_total (shows n places x) (least r rs) a.0
@@ -119,10 +119,10 @@ module _ (n : ℕ) (places : List ℕ) where
         both xs a.1 c.1,
       )
 
-  later_marks : (k : ℕ) (r : Row) (rs : List Row) → All (λ c. before (least r rs) c.marks ≡ true) (split k n places (left r rs))
+  later_marks : (k : ℕ) (r : Row) (rs : List Row) → AllByRecursion (λ c. before (least r rs) c.marks ≡ true) (split k n places (left r rs))
   later_marks k r rs = marks_keep n places (λ ms. before (least r rs) ms ≡ true) k (left r rs) (left_later r rs)
 
-  after_all : (marks : List ℕ) (cs : List Child) → All (λ c. before marks c.marks ≡ true) cs → MarksAscend cs → MarksAfter marks cs
+  after_all : (marks : List ℕ) (cs : List Child) → AllByRecursion (λ c. before marks c.marks ≡ true) cs → MarksAscend cs → MarksAfter marks cs
   after_all marks [] a m = tt
   after_all marks (c ∷ cs) a m = (a.0, m)
 
@@ -144,13 +144,13 @@ module _ (n : ℕ) (places : List ℕ) where
       go false e true f ih = absurd (false≢true (sym e ∙ h x f))
       go false e false f ih = ih
 
-  just_rows : (k : ℕ) (rows : List Row) → All (λ c. c.rows ≡ filter (is_shown n places c.marks) rows) (split k n places rows)
+  just_rows : (k : ℕ) (rows : List Row) → AllByRecursion (λ c. c.rows ≡ filter (is_shown n places c.marks) rows) (split k n places rows)
   just_rows zero rows = tt
   just_rows (suc k) [] = tt
   just_rows (suc k) (r ∷ rs) =
       (refl, widen (split k n places (left r rs)) (just_rows k (left r rs)) (later_marks k r rs))
     where
-      widen : (cs : List Child) → All (λ c. c.rows ≡ filter (is_shown n places c.marks) (left r rs)) cs → All (λ c. before (least r rs) c.marks ≡ true) cs → All (λ c. c.rows ≡ filter (is_shown n places c.marks) (r ∷ rs)) cs
+      widen : (cs : List Child) → AllByRecursion (λ c. c.rows ≡ filter (is_shown n places c.marks) (left r rs)) cs → AllByRecursion (λ c. before (least r rs) c.marks ≡ true) cs → AllByRecursion (λ c. c.rows ≡ filter (is_shown n places c.marks) (r ∷ rs)) cs
       widen [] a b = tt
       widen (c ∷ cs) a b = (
         a.0
@@ -165,7 +165,7 @@ module _ (n : ℕ) (places : List ℕ) where
         widen cs a.1 b.1,
       )
 
-  some_rows : (k : ℕ) (rows : List Row) → All (λ c. 1 ≤ length c.rows) (split k n places rows)
+  some_rows : (k : ℕ) (rows : List Row) → AllByRecursion (λ c. 1 ≤ length c.rows) (split k n places rows)
   some_rows zero rows = tt
   some_rows (suc k) [] = tt
   some_rows (suc k) (r ∷ rs) = (some_kept n places r rs, some_rows k (left r rs))

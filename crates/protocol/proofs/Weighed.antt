@@ -1,16 +1,15 @@
 -- The weighted sum of a state against any function of the cards, and what each kind of line makes of it.
-use Rattle.std.proofs.Common.{◌≡◌, ℕ, zero, suc, ◌+◌, ◌-◌, ◌*◌, ◌^◌, ◌<◌, ◌≤◌, Bool, true, false, cond, not, ◌&&◌, ◌||◌, eqb, ltb, ◌⊎◌, List, [], ◌∷◌, ◌++◌, length, get_or, sum_by, filter, sym, refl, ap, ◌∙◌, subst, inl, inr, le_refl, add-mul, zero-add, zero-mul, mul-one, mul-add, arith, ltb-false, ltb-true, eq-eqb, ne_eqb, eqb-true}
+use Rattle.std.proofs.Common.{◌≡◌, ℕ, zero, suc, ◌+◌, ◌*◌, ◌<◌, ◌≤◌, Bool, true, false, cond, not, eqb, ltb, ◌⊎◌, List, [], ◌∷◌, length, get_or, sum_by, filter, sym, refl, ap, ◌∙◌, inl, inr, le_refl, add-mul, zero-add, zero-mul, mul-one, mul-add, arith, ltb-false, eq-eqb, ne_eqb}
 use mathlib.Core.Path.{fun_ext}
-use Rattle.std.specs.List.{AllByRecursion as All}
+use Rattle.std.specs.List.{AllByRecursion}
 use Rattle.std.proofs.ByRecursion.{kept_by_passes}
 use Rattle.std.proofs.lemmas.List.Sums.{sum_by-cons}
-use Rattle.std.proofs.lemmas.Bool.{cases_eq, cases_lt, cases_Bool}
-use Rattle.cards.specs.Lists.{table}
-use Rattle.cards.specs.Rows.{packed, unpacked}
+use Rattle.std.proofs.lemmas.Bool.{cases_eq, cases_lt}
+use Rattle.cards.specs.Rows.{unpacked}
 use Rattle.cards.proofs.Moves.{unpack_pack, unpack_dealt}
-use Rattle.protocol.specs.Machine.{Protocol, LawfulProtocol, inputs, laid, Mixing, moved, marks_at, same, sum_below}
+use Rattle.protocol.specs.Machine.{Protocol, LawfulProtocol, inputs, laid, Mixing, moved, marks_at, sum_below}
 use Rattle.protocol.specs.States.{Row, weight, cards_of, added, join, unit_row, started, start_state, row_after, joined_after, mixed_by, mixed, before, shows, is_shown, least_shown, Child, split, children, total_of}
-use Rattle.protocol.proofs.Sums.{sumBy_all, sumBy_add, sumBy_sum_below, sum_below_mul, cond_lt, cond_ge}
+use Rattle.protocol.proofs.Sums.{sum_by_all, sum_by_add, sum_by_sum_below, sum_below_mul, cond_lt, cond_ge}
 use Rattle.protocol.proofs.Dealt.{Inside, dealt_carried, dealt_laid, table_at}
 use Rattle.protocol.proofs.Same.{same_true, same_refl}
 
@@ -189,14 +188,14 @@ weighed_children n b places g rows = go (length rows) rows (le_refl (length rows
     f : List ℕ → ℕ
     f a = g (marks_at places a) a
 
-    shown : (marks : List ℕ) (rs : List Row) → All (λ r. is_shown n places marks r ≡ true) rs → All (λ r. weight b r * f (cards_of n r) ≡ weight b r * g marks (cards_of n r)) rs
+    shown : (marks : List ℕ) (rs : List Row) → AllByRecursion (λ r. is_shown n places marks r ≡ true) rs → AllByRecursion (λ r. weight b r * f (cards_of n r) ≡ weight b r * g marks (cards_of n r)) rs
     shown marks [] h = tt
     shown marks (r ∷ rs) h =
         (ap (λ ms. weight b r * g ms (cards_of n r)) (same_true (shows n places r) marks h.0), shown marks rs h.1)
 
     first : (marks : List ℕ) (rs : List Row) → weighed n b f (filter (is_shown n places marks) rs) ≡ weighed n b (g marks) (filter (is_shown n places marks) rs)
     first marks rs =
-        sumBy_all (λ r. weight b r * f (cards_of n r)) (λ r. weight b r * g marks (cards_of n r))
+        sum_by_all (λ r. weight b r * f (cards_of n r)) (λ r. weight b r * g marks (cards_of n r))
         (filter (is_shown n places marks) rs)
         (shown marks (filter (is_shown n places marks) rs) (kept_by_passes (is_shown n places marks) rs))
 
@@ -230,7 +229,7 @@ weighed_ext n b f g h rows = ap (λ k. weighed n b k rows) (fun_ext h)
 pub weighed_add : (n b : ℕ) (f g : List ℕ → ℕ) (rows : List Row) → weighed n b (λ a. f a + g a) rows ≡ weighed n b f rows + weighed n b g rows
 weighed_add n b f g rows =
     ap (λ k. sum_by k rows) (fun_ext (λ r. mul-add (weight b r) (f (cards_of n r)) (g (cards_of n r))))
-    ∙ sumBy_add (λ r. weight b r * f (cards_of n r)) (λ r. weight b r * g (cards_of n r)) rows
+    ∙ sum_by_add (λ r. weight b r * f (cards_of n r)) (λ r. weight b r * g (cards_of n r)) rows
 
 pub weighed_const : (n b c : ℕ) (rows : List Row) → weighed n b (λ a. c) rows ≡ total_of b rows * c
 weighed_const n b c [] = sym (zero-mul c)
@@ -243,4 +242,4 @@ weighed_const n b c (r ∷ rs) =
 pub weighed_sum_below : (n b k : ℕ) (f : ℕ → List ℕ → ℕ) (rows : List Row) → weighed n b (λ a. sum_below k (λ d. f d a)) rows ≡ sum_below k (λ d. weighed n b (f d) rows)
 weighed_sum_below n b k f rows =
     ap (λ h. sum_by h rows) (fun_ext (λ r. sum_below_mul k (weight b r) (λ d. f d (cards_of n r))))
-    ∙ sumBy_sum_below k (λ r d. weight b r * f d (cards_of n r)) rows
+    ∙ sum_by_sum_below k (λ r d. weight b r * f d (cards_of n r)) rows

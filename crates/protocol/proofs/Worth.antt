@@ -1,23 +1,13 @@
 -- What a list of calls is worth: the sum, over all fillings of its draws, of any function of the answers, the table and
 -- the record at the end. Two inputs of one class make it worth the same.
-use Rattle.std.proofs.Common.{◌≡◌, ℕ, zero, suc, ◌+◌, ◌-◌, ◌*◌, ◌^◌, ◌<◌, ◌≤◌, Bool, true, false, cond, not, ◌&&◌, ◌||◌, eqb, ltb, ◌⊎◌, List, [], ◌∷◌, ◌++◌, length, get_or, Some, None, sum_by, Option, sym, refl, ap, ◌∙◌, subst, inl, inr, mul-zero, arith, ltb-false}
+use Rattle.std.proofs.Common.{◌≡◌, ℕ, ◌-◌, Bool, true, false, cond, ltb, List, [], ◌∷◌, length, Some, None, Option, sym, refl, ap, ◌∙◌, subst}
 use mathlib.Core.Path.{fun_ext}
-use Rattle.std.specs.List.{AllByRecursion as All}
-use Rattle.std.proofs.ByRecursion.{All-weaker}
-use Rattle.std.proofs.lemmas.Bool.{and_cases, not-false}
-use Rattle.cards.specs.Decks.{bit_reading}
 use Rattle.cards.specs.declared.reading.Reading.{Reading}
 use Rattle.cards.specs.declared.reading.Reading.TheVariants.{Zero, One, Neither}
-use Rattle.script.specs.Model.{Branch, Action, permute, shuffle, turn, committed, opened, none, LawfulAction}
-use Rattle.protocol.specs.Machine.{Protocol, LawfulProtocol, inputs, value, action_at, laid, Mixing, permuting, shuffling, moved, marks_at, target, Run, drawn, branched, acted, is_result, given, sum_below, one_if, count}
-use Rattle.protocol.specs.States.{Row, weight, cards_of, Child, children, mixed, start_state, total_of, same_reading, errs}
-use Rattle.protocol.specs.Tree.{Node, mixed_node, child_node, root}
-use Rattle.protocol.specs.Table.{Phase, empty, running, ended, Table, empty_table, Call, lay, step, turn_up, finish, where_now, Answer, began, stepped, turned, finished, stands_at, refused, Reply, refuse, run_of, bytes_of, overwritten, after_step, after_turn, after_finish, step_at, turn_at, finish_at, when_running, laid_table, lay_at, replied, Session, preceded, session, Asked, lay_own, lay_other, lay_same, ask_turn, ask_finish, ask_where, Planned, step_drawn, asked, call_of, steps_in, filled, finishes}
-use Rattle.protocol.proofs.Sums.{sumBy_all, sum_below_split, sum_below_zero, sum_below_const}
-use Rattle.protocol.proofs.Weighed.{weighed, weighed_ext, weighed_add, weighed_const, weighed_mixed, weighed_children, weighed_sum_below, Inward}
-use Rattle.protocol.proofs.TreeSum.{inward_permuting, inward_shuffling}
-use Rattle.protocol.proofs.Certified.{same_reading_true, RightRow, RightAt}
-use Rattle.protocol.proofs.Trees.{Tree, tree_fuel, tree_top, lawful_action, tree_permute, tree_shuffle, Grown, tree_turn}
+use Rattle.script.specs.Model.{Action, permute, shuffle, turn, committed, opened, none}
+use Rattle.protocol.specs.Machine.{Protocol, action_at, Run, acted, given, sum_below, one_if, count}
+use Rattle.protocol.specs.Table.{Phase, empty, running, ended, Table, Call, lay, step, turn_up, finish, where_now, Answer, Reply, refuse, run_of, after_step, after_turn, after_finish, step_at, turn_at, finish_at, when_running, lay_at, replied, session, Asked, lay_own, lay_other, lay_same, ask_turn, ask_finish, ask_where, Planned, step_drawn, asked, call_of, steps_in, filled}
+use Rattle.protocol.proofs.Sums.{sum_below_zero}
 
 -- a function of the answers, the table and the record after a list of calls
 abbrev pub After : Type 0

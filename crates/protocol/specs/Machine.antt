@@ -1,13 +1,13 @@
 -- The machine: one step at a time through a script, with a deck and a bank of shuffles; its runs, their dealings and
 -- traces, and how many lists of draws lead somewhere.
-use Rattle.std.specs.Prelude.{◌≡◌, ℕ, zero, suc, ◌+◌, ◌-◌, ◌*◌, ◌^◌, ◌<◌, ◌≤◌, Bool, true, false, cond, not, ◌&&◌, ◌||◌, List, [], ◌∷◌, ◌++◌, map, length, Some, None, Option, ◌==◌, nat_lt, slice_index, slice_index_or}
+use Rattle.std.specs.Prelude.{ℕ, zero, suc, ◌+◌, ◌-◌, ◌^◌, Bool, true, false, cond, ◌&&◌, ◌||◌, List, [], ◌∷◌, ◌++◌, map, Some, None, Option, ◌==◌, nat_lt, slice_index, slice_index_or}
 use Rattle.cards.specs.Lists.{table}
 use Rattle.cards.specs.Shuffles.{ShuffleMeaning, LawfulShuffle, image}
 use Rattle.cards.specs.Decks.{DeckMeaning, LawfulDeck, bit, bit_reading}
 use Rattle.cards.specs.Rows.{carried, packed}
 use Rattle.cards.specs.declared.reading.Reading.{Reading}
-use Rattle.cards.specs.declared.reading.Reading.TheVariants.{Zero, One, Neither}
-use Rattle.script.specs.Model.{Branch, Action, permute, shuffle, turn, committed, opened, none, Output, Script, LawfulScript}
+use Rattle.cards.specs.declared.reading.Reading.TheVariants.{Neither}
+use Rattle.script.specs.Model.{Branch, Action, permute, shuffle, turn, committed, opened, none, Script, LawfulScript}
 
 -- A script with the deck that it is played with, and a bank that has a shuffle for each line.
 pub record Protocol : Type 0 where

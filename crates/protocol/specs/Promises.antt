@@ -1,6 +1,6 @@
 -- What is promised of a protocol, in the words of the machine and the table.
-use Rattle.std.specs.Prelude.{◌≡◌, ℕ, zero, suc, ◌+◌, ◌^◌, ◌<◌, ◌≤◌, Bool, true, false, cond, ◌↔◌, List, [], ◌∷◌, ◌++◌, map, length, drop, Some, None, Ok, Err, sum_by, filter, Option, ◌==◌, ◌≢◌}
-use Rattle.std.specs.List.{range_with_len, ContainsAt as Has, AllByRecursion as All}
+use Rattle.std.specs.Prelude.{◌≡◌, ℕ, ◌^◌, ◌<◌, ◌≤◌, Bool, true, false, cond, ◌↔◌, List, [], ◌∷◌, ◌++◌, map, length, drop, Some, None, Ok, Err, sum_by, filter, Option, ◌==◌, ◌≢◌}
+use Rattle.std.specs.List.{range_with_len, ContainsAt as Has, AllByRecursion}
 use Rattle.std.specs.Option.{option_or}
 use Rattle.cards.specs.Decks.{bit_reading}
 use Rattle.cards.specs.Rows.{packed, unpacked}
@@ -9,14 +9,14 @@ use Rattle.script.specs.Faults.{Fault}
 use Rattle.protocol.specs.Machine.{Protocol, LawfulProtocol, inputs, value, action_at, laid, Mixing, permuting, shuffling, moved, one_if, sum_below, Trace, Run, begun, advanced, run_passes, is_result, given, dealings, reached, reached_with}
 use Rattle.protocol.specs.States.{Row, weight, weight_of, total_of, State, start_state, mixed, before, is_shown, Child, children, must_look_alike, leaks}
 use Rattle.protocol.specs.Tree.{Node, Event, events, nodes, offence, noted_number, is_wrong, certify, Certificate, Certified, class, faultless}
-use Rattle.protocol.specs.Table.{Phase, empty, Table, Call, Answer, finished, Planned, Session, session, Granted, granted, empty_table, bytes_of, fillings, finishes}
+use Rattle.protocol.specs.Table.{empty, Call, Answer, finished, Planned, Session, session, Granted, granted, empty_table, bytes_of, fillings, finishes}
 
 -- What the counts of draw lists count: a list counts where the run on it comes, after some number of steps, to a state
 -- that meets the test with no draw left. No such list is left out, since it has no more draws than the script has lines,
 -- each below 65,536.
 pub record Counts (p : Protocol) (b : ℕ) (test : Run → Bool) (draws : List ℕ) : Type 0 where
   pub passes : run_passes p b test draws ≡ true ↔ ((k : ℕ) × (r : Run) × (advanced k p (begun p b draws) ≡ Some r) × (r.draws ≡ []) × (test r ≡ true))
-  pub all_counted : run_passes p b test draws ≡ true → (length draws ≤ p.script.lines) × All (λ d. d < 65536) draws
+  pub all_counted : run_passes p b test draws ≡ true → (length draws ≤ p.script.lines) × AllByRecursion (λ d. d < 65536) draws
 
 abbrev pub DrawsCounted : Type 0
 DrawsCounted = (p : Protocol) → LawfulProtocol p → (b : ℕ) (test : Run → Bool) (draws : List ℕ) → Counts p b test draws
@@ -57,10 +57,10 @@ MarksAscend [] = Unit
 MarksAscend (c ∷ cs) = MarksAfter c.marks cs
 
 pub record TurnsTo (n : ℕ) (places : List ℕ) (rows : List Row) (cs : List Child) : Type 0 where
-  pub states : All (λ c. State c.rows) cs
+  pub states : AllByRecursion (λ c. State c.rows) cs
   pub ascend : MarksAscend cs
-  pub just : All (λ c. c.rows ≡ filter (is_shown n places c.marks) rows) cs
-  pub some : All (λ c. 1 ≤ length c.rows) cs
+  pub just : AllByRecursion (λ c. c.rows ≡ filter (is_shown n places c.marks) rows) cs
+  pub some : AllByRecursion (λ c. 1 ≤ length c.rows) cs
   pub whole : sum_by (λ c. length c.rows) cs ≡ length rows
 
 -- what each line of a script makes of a state
@@ -100,12 +100,12 @@ AlwaysReadOff = (p : Protocol) (bench : ℕ) → ReadOff p bench
 -- reaches the node with those cards, and a node's total is the number of draw lists that reach it.
 pub record Counted (p : Protocol) (b : ℕ) (u : Node) : Type 0 where
   pub state : State u.rows
-  pub row : All (λ r. weight b r ≡ reached_with p b u.line u.trace r.sequence) u.rows
+  pub row : AllByRecursion (λ r. weight b r ≡ reached_with p b u.line u.trace r.sequence) u.rows
   pub elsewhere : (x : ℕ) → weight_of b x u.rows ≡ reached_with p b u.line u.trace x
   pub total : total_of b u.rows ≡ reached p b u.line u.trace
 
 abbrev pub NodeByNode : Type 0
-NodeByNode = (p : Protocol) → LawfulProtocol p → (b : ℕ) → b < inputs p → All (Counted p b) (nodes p)
+NodeByNode = (p : Protocol) → LawfulProtocol p → (b : ℕ) → b < inputs p → AllByRecursion (Counted p b) (nodes p)
 
 -- Classes: two inputs have one class exactly when every trace has as many dealings under the one as under the other,
 -- and a class is named by its least input.

@@ -1,13 +1,13 @@
 -- Worked protocols, as models: exclusive or with four cards, three spoilt forms of it, and the five-card trick.
 use Rattle.std.specs.Prelude.{◌≡◌, ℕ, zero, suc, List, [], ◌∷◌, length, Some, None, Ok, Err, Option, Result, slice_index_or}
-use Rattle.cards.specs.Shuffles.{ShuffleMeaning, cut, Entry, explicit, piles, places}
+use Rattle.cards.specs.Shuffles.{ShuffleMeaning, cut, explicit, piles, places}
 use Rattle.cards.specs.Decks.{two_colour}
-use Rattle.script.specs.Model.{Branch, Action, permute, shuffle, turn, committed, opened, none, Output, committed_output, open_output, Script}
+use Rattle.script.specs.Model.{Branch, Action, permute, shuffle, turn, committed, opened, none, committed_output, open_output}
 use Rattle.script.specs.Faults.{Fault}
-use Rattle.script.specs.declared.fault.Layer.TheVariants.{Table as table-layer}
+use Rattle.script.specs.declared.fault.Layer.TheVariants.{Table as table_layer}
 use Rattle.protocol.specs.Machine.{Protocol, permuting, moved}
 use Rattle.protocol.specs.Tree.{Node, nodes, Certificate, certify, class, tree_fault}
-use Rattle.protocol.specs.Table.{Phase, empty, running, Answer, began, stepped, turned, finished, stands_at, refused, ended, Session, session, empty_table, Call, lay, step, turn_up, finish, where_now}
+use Rattle.protocol.specs.Table.{Phase, empty, running, Answer, began, stepped, turned, finished, stands_at, refused, ended, session, empty_table, lay, step, turn_up, finish, where_now}
 
 -- the action at a line, from the actions of all lines
 abbrev pub line_of : List Action → ℕ → Action
@@ -182,7 +182,7 @@ output_of p input draw =
 
 -- a refusal of the table, and where it stands
 abbrev pub table_refusal : ℕ → ℕ → Answer
-table_refusal number line = refused (record { number = number; layer = table-layer; line = line; place = 0 })
+table_refusal number line = refused (record { number = number; layer = table_layer; line = line; place = 0 })
 
 abbrev pub standing_at : Phase → ℕ → ℕ → Answer
 standing_at phase line written = stands_at (record { phase = phase; line = line; written = written })

@@ -1,13 +1,13 @@
 -- The states of a tree: rows of a card sequence and a weight for each input, and what each kind of line makes of them.
-use Rattle.std.specs.Prelude.{◌≡◌, ℕ, zero, suc, ◌+◌, ◌-◌, ◌*◌, ◌^◌, ◌<◌, ◌≤◌, Bool, true, false, cond, not, ◌&&◌, ◌||◌, List, [], ◌∷◌, ◌++◌, map, length, Some, None, fold, sum_by, filter, Option, ◌==◌, nat_lt, slice_index}
-use Rattle.std.specs.List.{range_with_len, AllByRecursion as All}
+use Rattle.std.specs.Prelude.{◌≡◌, ℕ, zero, suc, ◌+◌, ◌<◌, ◌≤◌, Bool, true, false, cond, not, ◌&&◌, ◌||◌, List, [], ◌∷◌, length, Some, None, sum_by, filter, Option, ◌==◌, nat_lt, slice_index}
+use Rattle.std.specs.List.{AllByRecursion}
 use Rattle.std.specs.Option.{option_or}
 use Rattle.cards.specs.Lists.{table}
 use Rattle.cards.specs.Rows.{packed, unpacked}
-use Rattle.cards.specs.Decks.{DeckMeaning, bit_reading, reading_number}
+use Rattle.cards.specs.Decks.{bit_reading, reading_number}
 use Rattle.cards.specs.declared.reading.Reading.{Reading}
-use Rattle.script.specs.Model.{Action, Script, Output, committed_output, open_output}
-use Rattle.protocol.specs.Machine.{Protocol, inputs, value, action_at, laid, Mixing, moved, marks_at, same, is_result, given, sum_below}
+use Rattle.script.specs.Model.{Action, Output, committed_output, open_output}
+use Rattle.protocol.specs.Machine.{Protocol, inputs, value, action_at, laid, Mixing, moved, marks_at, same, is_result, given}
 
 -- A row: the sequence number of a row of cards, and eight weights, that of input b at index b.
 pub record Row : Type 0 where
@@ -176,4 +176,4 @@ pub record Weighted (r : Row) : Type 0 where
 -- A state: rows strictly ascend by their sequences, and no row has only zero weights.
 pub record State (rows : List Row) : Type 0 where
   pub ascending : Ascending rows
-  pub weighted : All Weighted rows
+  pub weighted : AllByRecursion Weighted rows

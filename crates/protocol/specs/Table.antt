@@ -1,12 +1,12 @@
 -- The table: a script played out one call at a time, with the machine's own step.
-use Rattle.std.specs.Prelude.{◌≡◌, ℕ, zero, suc, ◌+◌, ◌-◌, ◌*◌, ◌^◌, ◌<◌, ◌≤◌, Bool, true, false, cond, not, ◌&&◌, ◌||◌, List, [], ◌∷◌, ◌++◌, length, take, drop, Some, None, Option, nat_lt}
+use Rattle.std.specs.Prelude.{ℕ, suc, ◌+◌, ◌-◌, Bool, true, false, cond, List, [], ◌∷◌, ◌++◌, length, take, drop, Some, None, Option, nat_lt}
 use Rattle.std.specs.List.{flat_map}
 use Rattle.cards.specs.declared.reading.Reading.{Reading}
 use Rattle.cards.specs.declared.reading.Reading.TheVariants.{Zero, One, Neither}
 use Rattle.script.specs.Model.{Action, permute, shuffle, turn, committed, opened, none}
 use Rattle.script.specs.Faults.{Fault}
-use Rattle.script.specs.declared.fault.Layer.TheVariants.{Table as table-layer}
-use Rattle.protocol.specs.Machine.{Protocol, inputs, value, action_at, laid, Trace, Run, acted, given, count}
+use Rattle.script.specs.declared.fault.Layer.TheVariants.{Table as table_layer}
+use Rattle.protocol.specs.Machine.{Protocol, inputs, action_at, laid, Trace, Run, acted, given, count}
 
 pub data Phase : Type 0 where
   empty : Phase
@@ -63,7 +63,7 @@ pub record Reply : Type 0 where
 abbrev pub refuse : Table → List ℕ → ℕ → Reply
 refuse t bytes number =
     record {
-      answer = refused (record { number = number; layer = table-layer; line = t.line; place = 0 });
+      answer = refused (record { number = number; layer = table_layer; line = t.line; place = 0 });
       table = t;
       bytes = bytes;
     }

@@ -1,10 +1,10 @@
 -- The tree of a protocol's states, and the certificate read off its nodes.
-use Rattle.std.specs.Prelude.{◌≡◌, ℕ, zero, suc, ◌+◌, ◌-◌, ◌*◌, ◌^◌, ◌<◌, ◌≤◌, min, Bool, true, false, cond, not, ◌&&◌, ◌||◌, List, [], ◌∷◌, ◌++◌, length, replicate, is_some, Some, None, Ok, Err, Option, Result, ◌==◌, nat_le, nat_lt, slice_index}
+use Rattle.std.specs.Prelude.{◌≡◌, ℕ, zero, suc, ◌+◌, min, Bool, true, cond, not, ◌&&◌, List, [], ◌∷◌, ◌++◌, length, replicate, is_some, Some, None, Ok, Err, Option, Result, ◌==◌, nat_le, nat_lt, slice_index}
 use Rattle.std.specs.Option.{option_or}
 use Rattle.cards.specs.Lists.{table}
 use Rattle.script.specs.Model.{Branch, Action, permute, shuffle, turn, committed, opened, none}
 use Rattle.script.specs.Faults.{Fault}
-use Rattle.script.specs.declared.fault.Layer.TheVariants.{Tree as tree-layer}
+use Rattle.script.specs.declared.fault.Layer.TheVariants.{Tree as tree_layer}
 use Rattle.protocol.specs.Machine.{Protocol, inputs, action_at, Mixing, permuting, shuffling, target, Trace, is_result}
 use Rattle.protocol.specs.States.{Row, Child, start_state, mixed, children, total_of, leaks, wrongness}
 
@@ -94,7 +94,7 @@ abbrev pub bench_rows : ℕ → ℕ
 bench_rows bench = min bench 65535
 
 abbrev pub tree_fault : ℕ → ℕ → ℕ → Fault
-tree_fault number line place = record { number = number; layer = tree-layer; line = line; place = place }
+tree_fault number line place = record { number = number; layer = tree_layer; line = line; place = place }
 
 abbrev pub offence : ℕ → Event → Option Fault
 offence bench (missing l k) = Some (tree_fault 20 l k)

@@ -1,5 +1,7 @@
 // What a card protocol means: the machine, the tree of states, the certificate and the table, by definitions alone. Each
 // function here carries a theorem on them, and gives a number of a worked protocol.
+#![tactic(auto)]
+
 ghost use Rattle.std.specs.Prelude.{◌≡◌};
 ghost use Rattle.protocol.specs.Promises.{DrawsCounted, OneState, StatesOfLines, AlwaysReadOff, NodeByNode, Classes, CertifiedExactly, TableAndMachine, Kept};
 ghost use Rattle.protocol.specs.Samples.{Worked, xor, short_xor, wrong_xor, trick, nodes_of, rows_at, class_in, refusal_of, wrong_in, output_of};

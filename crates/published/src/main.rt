@@ -1,5 +1,7 @@
 // Checks and certifies the sheets that the file index.txt names, with a bench of 512 rows. For each that is certified,
 // runs every dealing of every input on a table, and prints what comes out and how often each trace is shown.
+#![tactic(auto)]
+
 use certifier::certifying::certify;
 use heads::head::Head;
 use rows::row::Row;

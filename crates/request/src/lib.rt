@@ -1,2 +1,4 @@
 // The text that the program `deal` reads.
+#![tactic(auto)]
+
 pub mod text;

@@ -1,9 +1,9 @@
 -- The children of a turn: the least marks above the last ones, and the rows that show them.
-use Rattle.std.proofs.Common.{◌≡◌, ℕ, zero, suc, ◌+◌, ◌-◌, ◌<◌, ◌≤◌, Bool, true, false, cond, not, ◌&&◌, ◌||◌, ◌⊎◌, List, [], ◌∷◌, ◌++◌, map, length, get_or, take, drop, Some, None, filter, Option, sym, refl, ap, ◌∙◌, subst, inl, inr, le_refl, arith}
-use Rattle.std.specs.List.{AllByRecursion as All}
+use Rattle.std.proofs.Common.{◌≡◌, ℕ, zero, suc, ◌+◌, ◌<◌, ◌≤◌, Bool, true, false, cond, not, ◌&&◌, ◌⊎◌, List, [], ◌∷◌, length, get_or, take, drop, Some, None, filter, Option, sym, refl, ap, ◌∙◌, subst, inl, inr, le_refl, arith}
+use Rattle.std.specs.List.{AllByRecursion}
 use Rattle.std.proofs.ByRecursion.{kept_by_passes, All-weaker}
 use Rattle.std.proofs.lemmas.List.Filters.{length-filter_both}
-use Rattle.std.proofs.lemmas.Bool.{cases_Bool, false≢true, both_ways, not_from_true, not_from_false}
+use Rattle.std.proofs.lemmas.Bool.{cases_Bool, both_ways}
 use Rattle.protocol.specs.Machine.{same}
 use Rattle.protocol.specs.States.{Row, Child, before, shows, is_shown, least_shown, split, children}
 use Rattle.rows.specs.declared.row.Row as code
@@ -20,7 +20,7 @@ kept_all [] = refl
 kept_all (x ∷ xs) = ap (λ ys. x ∷ ys) (kept_all xs)
 
 -- a filter of what a filter keeps is one filter, by any test that agrees with both
-kept_twice : {X : Type 0} (p q r : X → Bool) (xs : List X) → All (λ x. (q x && p x) ≡ r x) xs → filter p (filter q xs) ≡ filter r xs
+kept_twice : {X : Type 0} (p q r : X → Bool) (xs : List X) → AllByRecursion (λ x. (q x && p x) ≡ r x) xs → filter p (filter q xs) ≡ filter r xs
 kept_twice p q r [] h = refl
 kept_twice p q r (x ∷ xs) h = go (q x) (p x) (r x) h.0 refl (kept_twice p q r xs h.1)
   where
@@ -29,22 +29,22 @@ kept_twice p q r (x ∷ xs) h = go (q x) (p x) (r x) h.0 refl (kept_twice p q r 
     go true false v e f ih = rw (f, sym e) ih
     go false u v e f ih = rw (sym e) ih
 
-all_of : {X : Type 0} (P : X → Type 0) → ((x : X) → P x) → (xs : List X) → All P xs
+all_of : {X : Type 0} (P : X → Type 0) → ((x : X) → P x) → (xs : List X) → AllByRecursion P xs
 all_of P h [] = tt
 all_of P h (x ∷ xs) = (h x, all_of P h xs)
 
 -- what holds of what a filter keeps holds of each element that passes
-all_kept : {X : Type 0} (P : X → Type 0) (p : X → Bool) (xs : List X) → All P (filter p xs) → All (λ x. p x ≡ true → P x) xs
+all_kept : {X : Type 0} (P : X → Type 0) (p : X → Bool) (xs : List X) → AllByRecursion P (filter p xs) → AllByRecursion (λ x. p x ≡ true → P x) xs
 all_kept P p [] h = tt
 all_kept P p (x ∷ xs) h = go (p x) refl h (all_kept P p xs)
   where
-    go : (t : Bool) → p x ≡ t → All P (cond t (x ∷ filter p xs) (filter p xs)) → (All P (filter p xs) → All (λ x. p x ≡ true → P x) xs) → All (λ x. p x ≡ true → P x) (x ∷ xs)
+    go : (t : Bool) → p x ≡ t → AllByRecursion P (cond t (x ∷ filter p xs) (filter p xs)) → (AllByRecursion P (filter p xs) → AllByRecursion (λ x. p x ≡ true → P x) xs) → AllByRecursion (λ x. p x ≡ true → P x) (x ∷ xs)
     go true e h ih = ((λ f. h.0), ih h.1)
     go false e h ih = ((λ f. absurd (both_ways (p x) e f)), ih h)
 
 module _ (n : ℕ) (places : List ℕ) where
   -- the least marks are among those shown, or the first ones
-  least_has : (P : List ℕ → Type 0) (m : List ℕ) (rs : List Row) → P m → All (λ r. P (shows n places r)) rs → P (least_shown n places m rs)
+  least_has : (P : List ℕ → Type 0) (m : List ℕ) (rs : List Row) → P m → AllByRecursion (λ r. P (shows n places r)) rs → P (least_shown n places m rs)
   least_has P m [] h k = h
   least_has P m (r ∷ rs) h k =
       least_has P (cond (before (shows n places r) m) (shows n places r) m) rs
@@ -54,7 +54,7 @@ module _ (n : ℕ) (places : List ℕ) where
   -- and none of those comes before them
   pub record Lowest (m : List ℕ) (rs : List Row) (least : List ℕ) : Type 0 where
     pub first : before m least ≡ false
-    pub others : All (λ r. before (shows n places r) least ≡ false) rs
+    pub others : AllByRecursion (λ r. before (shows n places r) least ≡ false) rs
 
   lowest : (m : List ℕ) (rs : List Row) → Lowest m rs (least_shown n places m rs)
   lowest m [] = record { first = before_refl m; others = tt }
@@ -144,14 +144,14 @@ module _ (n : ℕ) (places : List ℕ) where
 
     above : after o least ≡ true
     above =
-        let h : All (λ x. after o (shows n places x) ≡ true) (r ∷ rs) = subst (All (λ x. after o (shows n places x) ≡ true)) is (kept_by_passes (λ x. after o (shows n places x)) rows) in
+        let h : AllByRecursion (λ x. after o (shows n places x) ≡ true) (r ∷ rs) = subst (AllByRecursion (λ x. after o (shows n places x) ≡ true)) is (kept_by_passes (λ x. after o (shows n places x)) rows) in
         least_has (λ m. after o m ≡ true) (shows n places r) rs h.0 h.1
 
-    low : All (λ x. after o (shows n places x) ≡ true → before (shows n places x) least ≡ false) rows
+    low : AllByRecursion (λ x. after o (shows n places x) ≡ true → before (shows n places x) least ≡ false) rows
     low =
         let w : Lowest (shows n places r) rs least = lowest (shows n places r) rs in
         all_kept (λ x. before (shows n places x) least ≡ false) (λ x. after o (shows n places x)) rows
-        (subst (All (λ x. before (shows n places x) least ≡ false)) (sym is) (w.first, w.others))
+        (subst (AllByRecursion (λ x. before (shows n places x) least ≡ false)) (sym is) (w.first, w.others))
 
     -- all the rows that show the least marks are above the last ones
     shown_above : (x : Row) → (after o (shows n places x) && is_shown n places least x) ≡ is_shown n places least x

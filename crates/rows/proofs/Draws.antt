@@ -1,7 +1,7 @@
 -- One draw of a mixing after another.
-use Rattle.std.proofs.Common.{◌≡◌, ℕ, suc, ◌+◌, ◌-◌, ◌*◌, ◌<◌, ◌≤◌, List, length, take, sym, refl, ap, ◌∙◌, subst, suc-mul, add-one, arith}
+use Rattle.std.proofs.Common.{◌≡◌, ℕ, suc, ◌+◌, ◌-◌, ◌*◌, ◌<◌, ◌≤◌, List, length, take, sym, ap, ◌∙◌, suc-mul, add-one, arith}
 use Rattle.protocol.specs.Machine.{Mixing}
-use Rattle.protocol.specs.States.{Row, total_of, joined_after, mixed_by, Ascending}
+use Rattle.protocol.specs.States.{Row, total_of, joined_after, mixed_by}
 use Rattle.rows.specs.declared.row.Row as code
 use Rattle.rows.specs.Views.{rows_view, Written}
 use Rattle.rows.proofs.Order.{ascending_joined_after, joined_after_longer, mixed_by_longer}

@@ -1,13 +1,13 @@
 -- What is written of a run of rows by joining one row.
-use Rattle.std.proofs.Common.{◌≡◌, ℕ, zero, suc, ◌+◌, ◌-◌, ◌<◌, ◌≤◌, List, [], ◌∷◌, ◌++◌, map, length, get_or, take, drop, set, sym, refl, ap, ◌∙◌, subst, inl, inr, add-one, arith}
+use Rattle.std.proofs.Common.{◌≡◌, ℕ, ◌+◌, ◌-◌, ◌<◌, ◌≤◌, List, [], ◌∷◌, ◌++◌, length, get_or, take, drop, set, sym, ap, ◌∙◌, subst, inl, inr, arith}
 use lib.Seq.{take-set-lt}
 use borrow.Rule.Slice.PartMut.{put_mid}
 use Rattle.std.specs.List.{insert}
-use Rattle.std.proofs.lemmas.List.{length-map, length-set, length-take-le, length-take, length-drop, length-append, drop-set-lt, get_or-take, set_at, take-take, take_at, drop_at, drop-drop, drop_all, drop_more, append_assoc}
+use Rattle.std.proofs.lemmas.List.{length-map, length-set, length-take-le, length-take, length-drop, drop-set-lt, get_or-take, set_at, take-take, take_at, drop_at, drop-drop, drop_all, drop_more, append_assoc}
 use Rattle.std.proofs.lemmas.Bool.{cases_eq}
 use Rattle.std.proofs.lemmas.Slice.{between_is}
 use Rattle.std.proofs.lemmas.List.Edits.{length-insert}
-use Rattle.protocol.specs.States.{Row, added, join}
+use Rattle.protocol.specs.States.{added, join}
 use Rattle.rows.specs.declared.row.Row as code
 use Rattle.rows.specs.Views.{row_view, rows_view, sequence_at, Written}
 use Rattle.rows.proofs.Order.{join_new, join_same, merged}

@@ -1,11 +1,11 @@
 -- Totals under an input, and what joining adds to them.
-use Rattle.std.proofs.Common.{◌≡◌, ℕ, zero, suc, ◌+◌, ◌*◌, ◌<◌, ◌≤◌, Bool, true, false, cond, ltb, List, [], ◌∷◌, length, get_or, take, sum_by, filter, sym, refl, ap, ◌∙◌, suc-mul, mul_comm, zero-add, zero-mul, arith}
+use Rattle.std.proofs.Common.{◌≡◌, ℕ, zero, suc, ◌+◌, ◌*◌, ◌<◌, ◌≤◌, Bool, true, false, cond, ltb, List, [], ◌∷◌, length, get_or, take, sym, ap, ◌∙◌, suc-mul, zero-add, zero-mul, arith}
 use Rattle.std.proofs.lemmas.List.Sums.{sum_by-cons, sum_by_push, sum_by-take-le, get_or-le-sum_by}
 use Rattle.std.proofs.lemmas.List.FromFn.{get_or-map-range_with_len, length-map-range_with_len, fill_by_all}
 use Rattle.std.proofs.lemmas.List.{get_or-map, length-map, map_more, take-map}
 use Rattle.cards.specs.Lists.{table}
 use Rattle.protocol.specs.Machine.{Mixing}
-use Rattle.protocol.specs.States.{Row, weight, added, join, total_of, row_after, joined_after, mixed_by, mixed}
+use Rattle.protocol.specs.States.{Row, weight, added, join, total_of, row_after, joined_after, mixed_by}
 use Rattle.rows.specs.declared.row.Row as code
 use Rattle.rows.specs.Views.{row_view, rows_view}
 

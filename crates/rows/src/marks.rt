@@ -1,6 +1,6 @@
 // The marks that a row shows, and their order.
 ghost use Rattle.std.specs.Prelude.{◌≡◌, ◌≤◌, length, take};
-ghost use Rattle.std.specs.List.{AllByRecursion as All};
+ghost use Rattle.std.specs.List.{AllByRecursion};
 ghost use Rattle.protocol.specs.Machine.{same};
 ghost use Rattle.protocol.specs.States.{before, shows};
 ghost use Rattle.rows.specs.Views.{row_view};
@@ -42,7 +42,7 @@ pub fn before(a: &[u8], b: &[u8]) -> bool
 pub fn shown(cards: u8, places: &[u8], row: &Row) -> [u8; 12]
     requires cards { cards ≤ 12 }
     requires few { length places.now ≤ 12 }
-    requires places { All (λ p. (1 ≤ p) × (p ≤ cards)) places.now }
+    requires places { AllByRecursion (λ p. (1 ≤ p) × (p ≤ cards)) places.now }
     ensures { take (length places.now) result ≡ shows cards places.now (row_view row.now) }
 {
     let row = Cards::unpack(cards, row.sequence).cards;

@@ -1,6 +1,6 @@
 // The children of a turn, one at a time in the order of their marks.
 ghost use Rattle.std.specs.Prelude.{◌≡◌, ℕ, ◌<◌, ◌≤◌, length, take, Some, filter};
-ghost use Rattle.std.specs.List.{AllByRecursion as All};
+ghost use Rattle.std.specs.List.{AllByRecursion};
 ghost use Rattle.protocol.specs.States.{is_shown, total_of, children};
 ghost use Rattle.rows.specs.Views.{rows_view, Put};
 ghost use Rattle.rows.specs.Turns.{follows, leads, rows_after, Next};
@@ -40,7 +40,7 @@ pub fn next_marks(
 ) -> Option<[u8; 12]>
     requires cards { cards ≤ 12 }
     requires few { length places.now ≤ 12 }
-    requires places { All (λ p. (1 ≤ p) × (p ≤ cards)) places.now }
+    requires places { AllByRecursion (λ p. (1 ≤ p) × (p ≤ cards)) places.now }
     ensures { Next cards places.now (rows_view rows.now) result (children cards places.now (rows_after cards places.now last (rows_view rows.now))) }
 {
     let mut least: Option<[u8; 12]> = None;
@@ -63,7 +63,7 @@ pub fn gather(
 ) -> Option<usize>
     requires cards { cards ≤ 12 }
     requires few { length places.now ≤ 12 }
-    requires places { All (λ p. (1 ≤ p) × (p ≤ cards)) places.now }
+    requires places { AllByRecursion (λ p. (1 ≤ p) × (p ≤ cards)) places.now }
     ensures put { Put result (filter (is_shown cards places.now (take (length places.now) marks)) (rows_view rows.now)) room.old room.new }
     ensures totals { (len b : ℕ) → result ≡ Some len → total_of b (rows_view (take len room.new)) ≤ total_of b (rows_view rows.now) }
 {

@@ -1,4 +1,6 @@
 // Rows at their edges, by tables. The operations of the crate `rows` ask that sums fit; these forms of them test it.
+#![tactic(auto)]
+
 ghost use Rattle.std.specs.Prelude.{◌≡◌, ℕ, ◌^◌, ◌<◌, ◌≤◌, true, length, replicate, slice_index};
 ghost use Rattle.protocol.specs.States.{total_of};
 ghost use Rattle.rows.specs.Views.{rows_view, zero_row};

@@ -38,20 +38,20 @@ mod edges {
     // the rows written are these sequences with these weights under input 0, and the row after them stands
     fn written(
         rt: &impl Abort,
+        what: &str,
         got: Option<usize>,
         room: &[Row],
         wanted: &[(u64, u64)],
-    ) -> Result<(), Fail> {
-        assert_eq!(rt; got, Some(wanted.len()));
-        assert!(rt; wanted.len() <= room.len());
+    ) {
+        assert_eq!(rt; got, Some(wanted.len()), "{what}");
+        assert!(rt; wanted.len() <= room.len(), "{what}");
         for (row, (sequence, weight)) in room.iter().zip(wanted.iter()) {
-            assert_eq!(rt; row.sequence, *sequence);
-            assert_eq!(rt; row.weights[0], *weight);
+            assert_eq!(rt; row.sequence, *sequence, "{what}");
+            assert_eq!(rt; row.weights[0], *weight, "{what}");
         }
         for row in room.iter().skip(wanted.len()) {
-            assert_eq!(rt; row.sequence, 777);
+            assert_eq!(rt; row.sequence, 777, "{what}");
         }
-        Ok(())
     }
 
     // rows with these sequences, each of weight 1, joined one by one to an empty run
@@ -65,74 +65,107 @@ mod edges {
 
     fn joined_in(
         rt: &impl Abort,
+        what: &str,
         given: &[u64],
         room: &mut [Row],
         wanted: Option<&[(u64, u64)]>,
-    ) -> Result<(), Fail> {
+    ) {
         let got = join_all(given, room);
         match wanted {
-            Some(wanted) => written(rt, got, room, wanted),
-            None => {
-                assert!(rt; got.is_none());
-                Ok(())
-            },
+            Some(wanted) => written(rt, what, got, room, wanted),
+            None => assert!(rt; got.is_none(), "{what}"),
         }
     }
 
     fn joined(
         rt: &impl Abort,
+        what: &str,
         given: &[u64],
         places: usize,
         wanted: Option<&[(u64, u64)]>,
-    ) -> Result<(), Fail> {
+    ) {
         let mut room = [blank(); 8];
-        assert!(rt; places <= 8);
-        joined_in(rt, given, &mut room[0..places], wanted)
+        assert!(rt; places <= 8, "{what}");
+        joined_in(rt, what, given, &mut room[0..places], wanted)
     }
 
     #[test]
-    fn joins(rt: HostRuntime) -> Result<(), Fail> {
-        joined(&rt, &[], 0, Some(&[])).note("nothing, no room")?;
-        joined(&rt, &[], 3, Some(&[])).note("nothing")?;
-        joined(&rt, &[5], 0, None).note("no room")?;
-        joined(&rt, &[5], 1, Some(&[(5, 1)])).note("into an empty run")?;
-        joined(&rt, &[5, 3], 3, Some(&[(3, 1), (5, 1)])).note("first")?;
-        joined(&rt, &[5, 9, 7], 3, Some(&[(5, 1), (7, 1), (9, 1)])).note("in the middle")?;
-        joined(&rt, &[5, 7, 9], 4, Some(&[(5, 1), (7, 1), (9, 1)])).note("last")?;
-        joined(&rt, &[1, 2, 3, 1], 3, Some(&[(1, 2), (2, 1), (3, 1)])).note("equal, first")?;
-        joined(&rt, &[1, 2, 3, 2], 3, Some(&[(1, 1), (2, 2), (3, 1)])).note(
-            "equal, in the middle",
-        )?;
-        joined(&rt, &[1, 2, 3, 3], 3, Some(&[(1, 1), (2, 1), (3, 2)])).note("equal, last")?;
-        joined(&rt, &[3, 2, 1, 0], 3, None).note("one short, first")?;
-        joined(&rt, &[0, 1, 2, 3], 3, None).note("one short, last")?;
+    fn joins(rt: HostRuntime) {
+        joined(&rt, "nothing, no room", &[], 0, Some(&[]));
+        joined(&rt, "nothing", &[], 3, Some(&[]));
+        joined(&rt, "no room", &[5], 0, None);
+        joined(&rt, "into an empty run", &[5], 1, Some(&[(5, 1)]));
+        joined(&rt, "first", &[5, 3], 3, Some(&[(3, 1), (5, 1)]));
         joined(
             &rt,
+            "in the middle",
+            &[5, 9, 7],
+            3,
+            Some(&[(5, 1), (7, 1), (9, 1)]),
+        );
+        joined(&rt, "last", &[5, 7, 9], 4, Some(&[(5, 1), (7, 1), (9, 1)]));
+        joined(
+            &rt,
+            "equal, first",
+            &[1, 2, 3, 1],
+            3,
+            Some(&[(1, 2), (2, 1), (3, 1)]),
+        );
+        joined(
+            &rt,
+            "equal, in the middle",
+            &[1, 2, 3, 2],
+            3,
+            Some(&[(1, 1), (2, 2), (3, 1)]),
+        );
+        joined(
+            &rt,
+            "equal, last",
+            &[1, 2, 3, 3],
+            3,
+            Some(&[(1, 1), (2, 1), (3, 2)]),
+        );
+        joined(&rt, "one short, first", &[3, 2, 1, 0], 3, None);
+        joined(&rt, "one short, last", &[0, 1, 2, 3], 3, None);
+        joined(
+            &rt,
+            "just enough",
             &[0, 1, 2, 3],
             4,
             Some(&[(0, 1), (1, 1), (2, 1), (3, 1)]),
-        )
-        .note("just enough")?;
-        joined(&rt, &[8, 8, 8, 8, 8, 8, 8, 8], 1, Some(&[(8, 8)])).note("all equal")
+        );
+        joined(
+            &rt,
+            "all equal",
+            &[8, 8, 8, 8, 8, 8, 8, 8],
+            1,
+            Some(&[(8, 8)]),
+        );
     }
 
     #[test]
-    fn permutes(rt: HostRuntime) -> Result<(), Fail> {
+    fn permutes(rt: HostRuntime) {
         let rows = [row(0x012, 0, 3), row(0x120, 0, 4)];
         let mut room = [blank(); 3];
         let got = permuted(3, [1, 2, 0, 3, 4, 5, 6, 7, 8, 9, 10, 11], &rows, &mut room);
-        written(&rt, got, &room, &[(0x012, 4), (0x201, 3)])
+        written(&rt, "a permute", got, &room, &[(0x012, 4), (0x201, 3)]);
     }
 
     #[test]
-    fn shuffles(rt: HostRuntime) -> Result<(), Fail> {
+    fn shuffles(rt: HostRuntime) {
         let bank = Everywhere {
             shuffle: Cut { slots: 3 },
         };
         let rows = [row(0x001, 0, 2), row(0x010, 0, 5)];
         let mut room = [blank(); 4];
         let got = shuffled(&bank, 3, 3, &rows, &mut room);
-        written(&rt, got, &room, &[(0x001, 7), (0x010, 7), (0x100, 7)]).note("a cut")?;
+        written(
+            &rt,
+            "a cut",
+            got,
+            &room,
+            &[(0x001, 7), (0x010, 7), (0x100, 7)],
+        );
         let mut room = [blank(); 3];
         assert_eq!(rt;
             shuffled(&bank, 3, 3, &rows, &mut room),
@@ -146,25 +179,32 @@ mod edges {
         );
         let mut room = [blank(); 3];
         let got = shuffled(&bank, 4, 3, &rows, &mut room);
-        written(&rt, got, &room, &[(0x001, 6), (0x010, 15)]).note("another width")?;
+        written(&rt, "another width", got, &room, &[(0x001, 6), (0x010, 15)]);
         let mut room = [blank(); 3];
         let got = shuffled(&bank, 3, 5, &rows, &mut room);
-        written(&rt, got, &room, &[(0x001, 10), (0x010, 25)]).note("another total")
+        written(
+            &rt,
+            "another total",
+            got,
+            &room,
+            &[(0x001, 10), (0x010, 25)],
+        );
     }
 
     // the exclusive or: two players lay their bits as pairs of cards
     const CODES: [u8; 4] = [16, 17, 18, 19];
 
     #[test]
-    fn starts(rt: HostRuntime) -> Result<(), Fail> {
+    fn starts(rt: HostRuntime) {
         let mut room = [blank(); 5];
         let got = start(&TwoColour, 2, &CODES, &mut room);
         written(
             &rt,
+            "a layout",
             got,
             &room,
             &[(0x0101, 1), (0x0110, 0), (0x1001, 0), (0x1010, 0)],
-        )?;
+        );
         assert_eq!(rt; room[0].weights, [1, 0, 0, 0, 0, 0, 0, 0]);
         assert_eq!(rt; room[1].weights, [0, 0, 1, 0, 0, 0, 0, 0]);
         assert_eq!(rt; room[2].weights, [0, 1, 0, 0, 0, 0, 0, 0]);
@@ -180,7 +220,6 @@ mod edges {
             Some(2),
             "just enough"
         );
-        Ok(())
     }
 
     #[test]
@@ -195,12 +234,24 @@ mod edges {
         assert_eq!(rt; first, [0, 1, 0, 0, 0, 0, 0, 0, 0, 0, 0, 0]);
         let mut room = [blank(); 3];
         let got = gather(4, &[1, 2], first, &rows, &mut room);
-        written(&rt, got, &room, &[(0x0101, 1), (0x0110, 2)])?;
+        written(
+            &rt,
+            "the first child",
+            got,
+            &room,
+            &[(0x0101, 1), (0x0110, 2)],
+        );
         let second = next_marks(4, &[1, 2], &rows, Some(first)).ok_or("no second child")?;
         assert_eq!(rt; second, [1, 0, 0, 0, 0, 0, 0, 0, 0, 0, 0, 0]);
         let mut room = [blank(); 2];
         let got = gather(4, &[1, 2], second, &rows, &mut room);
-        written(&rt, got, &room, &[(0x1001, 3), (0x1010, 4)])?;
+        written(
+            &rt,
+            "the second child",
+            got,
+            &room,
+            &[(0x1001, 3), (0x1010, 4)],
+        );
         assert!(rt; next_marks(4, &[1, 2], &rows, Some(second)).is_none());
         let mut room = [blank(); 1];
         assert!(rt;

@@ -1,17 +1,16 @@
 -- The worked protocols are lawful.
-use Rattle.std.proofs.Common.{◌≡◌, ℕ, zero, suc, ◌+◌, ◌-◌, ◌*◌, ◌/◌, ◌%◌, ◌^◌, ◌<◌, ◌≤◌, Bool, true, false, cond, ◌&&◌, eqb, ltb, ◌⊎◌, List, [], ◌∷◌, length, sym, refl, ap, ◌∙◌, inl, inr, arith, le-ltb, lt-ltb, ne_eqb}
+use Rattle.std.proofs.Common.{◌≡◌, ℕ, zero, suc, ◌+◌, ◌-◌, ◌*◌, ◌/◌, ◌%◌, ◌<◌, ◌≤◌, Bool, true, false, cond, eqb, [], ◌∷◌, sym, refl, ap, ◌∙◌, inl, inr, arith, le-ltb, lt-ltb}
 use Rattle.std.proofs.lemmas.Bool.{cases_eq, cases_order}
-use Rattle.cards.specs.Shuffles.{LawfulShuffle, cut, piles, places}
-use Rattle.cards.specs.Decks.{DeckMeaning, LawfulDeck, two_colour, ordered, swapped, bit, bit_reading, player_code}
-use Rattle.cards.specs.declared.reading.Reading.{Reading}
+use Rattle.cards.specs.Shuffles.{cut, piles}
+use Rattle.cards.specs.Decks.{LawfulDeck, two_colour, ordered, swapped, bit, bit_reading, player_code}
 use Rattle.cards.specs.declared.reading.Reading.TheVariants.{Zero, One, Neither}
-use Rattle.script.specs.Model.{Branch, Action, permute, shuffle, turn, committed, opened, none, Onward, LawfulBranch, LawfulAction, Script, LawfulScript}
+use Rattle.script.specs.Model.{LawfulAction}
 use Rattle.shuffles.specs.Lawful.{lawful_cut, lawful_piles, lawful_places}
-use Rattle.protocol.specs.Machine.{Protocol, LawfulProtocol}
+use Rattle.protocol.specs.Machine.{LawfulProtocol}
 use Rattle.protocol.specs.Tree.{Certified, certify, scan, events, subtree}
 use Rattle.protocol.specs.Samples.{xor, trick}
 use Rattle.protocol.proofs.Kept.{kept}
-use Rattle.samples.specs.Applied.{Applies, xor_certificate, trick_certificate, PromisesApply}
+use Rattle.samples.specs.Applied.{xor_certificate, trick_certificate, PromisesApply}
 
 -- the two-colour deck
 

@@ -1,5 +1,5 @@
 -- The promises at worked protocols: these are lawful and certified, so nothing that is promised is empty.
-use Rattle.std.specs.Prelude.{ℕ, List, [], ◌∷◌, Some, None}
+use Rattle.std.specs.Prelude.{ℕ, [], ◌∷◌, None}
 use Rattle.protocol.specs.Machine.{Protocol, LawfulProtocol}
 use Rattle.protocol.specs.Tree.{Certificate, Certified}
 use Rattle.protocol.specs.Promises.{Promise}

@@ -1,4 +1,6 @@
 // Worked protocols at which the promises hold.
+#![tactic(auto)]
+
 ghost use Rattle.std.specs.Prelude.{◌≡◌};
 ghost use Rattle.samples.specs.Applied.{PromisesApply, trick_certificate};
 

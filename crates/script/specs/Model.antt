@@ -1,6 +1,6 @@
 -- The model of a script: what its sheet says, without its bytes. The tree and the table know a script by this alone.
-use Rattle.std.specs.Prelude.{◌≡◌, ℕ, zero, suc, ◌+◌, ◌-◌, ◌*◌, ◌/◌, ◌%◌, ◌^◌, ◌<◌, ◌≤◌, Bool, true, false, List, [], ◌∷◌, length, get_or}
-use Rattle.std.specs.List.{AllByRecursion as All}
+use Rattle.std.specs.Prelude.{◌≡◌, ℕ, ◌<◌, ◌≤◌, List, length}
+use Rattle.std.specs.List.{AllByRecursion}
 use Rattle.cards.specs.Shuffles.{Permutes}
 
 -- A branch of a turn: the marks that lead to it, in the order of the places turned, and the line it goes to.
@@ -11,7 +11,7 @@ pub record Branch : Type 0 where
 -- What a line does. `permute` and `shuffle` go on to the line `next`; a turn goes to the target of a branch; a result
 -- ends the run.
 pub data Action : Type 0 where
-  -- the card in slot s goes to slot `get_or images s`; there is nothing to draw
+  -- the card in slot s goes to the slot at index s of `images`; there is nothing to draw
   permute : (images : List ℕ) → (next : ℕ) → Action
   -- one of `total` draws; the shuffle itself is asked of a bank, by line
   shuffle : (total : ℕ) → (next : ℕ) → Action
@@ -54,7 +54,7 @@ abbrev pub LawfulAction : (n lines l : ℕ) → Action → Type 0
 LawfulAction n lines l (permute images next) = Permutes n images × Onward lines l next
 LawfulAction n lines l (shuffle total next) = (1 ≤ total) × ((total ≤ 65535) × Onward lines l next)
 LawfulAction n lines l (turn places branches) =
-    (1 ≤ length places) × (All (λ p. (1 ≤ p) × (p ≤ n)) places × All (LawfulBranch lines l (length places)) branches)
+    (1 ≤ length places) × (AllByRecursion (λ p. (1 ≤ p) × (p ≤ n)) places × AllByRecursion (LawfulBranch lines l (length places)) branches)
 LawfulAction n lines l (committed left right) = ((1 ≤ left) × (left ≤ n)) × ((1 ≤ right) × (right ≤ n))
 LawfulAction n lines l (opened value) = value < 2
 LawfulAction n lines l none = ⊥

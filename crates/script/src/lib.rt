@@ -1,2 +1,4 @@
 // What the layers share of a script: its model, in this crate's definitions, and what a refusal names.
+#![tactic(auto)]
+
 pub mod fault;

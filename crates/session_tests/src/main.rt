@@ -7,6 +7,8 @@
 //   record N       a record of so many bytes, each EE at the start
 //   lay N, step N, turn, finish, where    a call
 // Empty lines and those that begin with '#' are passed over.
+#![tactic(auto)]
+
 use anyhow::anyhow;
 use cards::deck::Deck;
 use heads::head::DeckKind;

@@ -1,4 +1,6 @@
 // A list of calls on a table that is opened on a certified script.
+#![tactic(auto)]
+
 pub mod call;
 mod calls;
 pub mod fault;

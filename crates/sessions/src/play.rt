@@ -1,10 +1,10 @@
 // A list of calls, from a checked script to the last answer.
 ghost use Rattle.std.specs.Prelude.{◌≡◌, map, length, replicate};
+ghost use Rattle.certifier.specs.Promise.{WholePromise};
 ghost use Rattle.rows.specs.Views.{zero_row};
 ghost use Rattle.tree.specs.Walks.{playing};
 ghost use Rattle.sessions.specs.Calls.{call_of};
 ghost use Rattle.sessions.specs.Outcomes.{Outcome};
-ghost use Rattle.sessions.specs.Promise.{WholePromise};
 
 use crate::call::Call;
 use crate::calls::make_calls;
@@ -34,7 +34,7 @@ pub fn play<D: Deck, B: Bank>(
 ) -> Result<Played, PlayFault>
     ensures outcome { Outcome (playing script (D.Deck.means deck.now) (B.Bank.at bank.now)) (length bench.old) «record».old (map call_of calls.now) result «record».new }
     ensures zeroed { bench.new ≡ replicate (length bench.old) zero_row }
-    ensures promise { WholePromise (playing script (D.Deck.means deck.now) (B.Bank.at bank.now)) (length bench.old) }
+    ensures promise { WholePromise (playing script (D.Deck.means deck.now) (B.Bank.at bank.now)) }
 {
     let certificate = certify(&script, deck, bank, bench)?;
     if !certificate.is_faultless() {

@@ -1,5 +1,5 @@
 -- A loop that fills an array of twelve, place by place.
-use Rattle.std.proofs.Common.{◌≡◌, ℕ, ◌+◌, ◌<◌, List, length, get_or, set, sym, ◌∙◌, subst, arith, length-set}
+use Rattle.std.proofs.Common.{◌≡◌, ℕ, ◌+◌, ◌<◌, List, length, get_or, set, sym, subst, arith, length-set}
 use Rattle.std.proofs.lemmas.List.Edits.{fill_by_more}
 
 pub filled : (f : ℕ → ℕ) (xs : List ℕ) (i at x : ℕ) → length xs ≡ 12 → i < 12 → at ≡ i → x ≡ f i

@@ -1,10 +1,9 @@
 -- No path of a sheet that passes has a product above the limit.
-use Rattle.std.proofs.Common.{◌≡◌, ℕ, zero, suc, ◌+◌, ◌-◌, ◌*◌, ◌^◌, ◌<◌, ◌≤◌, max, Bool, true, false, cond, not, ◌&&◌, ◌||◌, eqb, ltb, ◌⊎◌, List, [], ◌∷◌, ◌++◌, length, get_or, Some, None, sym, refl, ap, ◌∙◌, subst, inl, inr, ⊎_elim, mul-le-mul_right, mul-one, arith}
+use Rattle.std.proofs.Common.{◌≡◌, ℕ, zero, suc, ◌*◌, ◌<◌, ◌≤◌, Bool, true, false, cond, ◌&&◌, eqb, ltb, List, [], ◌∷◌, length, get_or, None, sym, refl, ap, ◌∙◌, subst, ⊎_elim, mul-le-mul_right, mul-one, arith}
 use Rattle.std.proofs.lemmas.List.{get_or_push, get_or_append_left}
-use Rattle.std.proofs.lemmas.Bool.{cases_Bool, cases_lt, cases_order, eqb-true, ne_eqb, ltb-false, or_cases, both_ways, false≢true, cond-true, cond-false}
-use Rattle.std.specs.List.{AllByRecursion as All}
-use Rattle.script.specs.Model.{Action, Branch, permute, shuffle, turn, committed, opened, none, LawfulAction, LawfulBranch, LawfulScript}
-use Rattle.sheet.specs.First.{first, given}
+use Rattle.std.proofs.lemmas.Bool.{cases_Bool, cases_lt, cases_order, eqb-true, ne_eqb, ltb-false, or_cases, false≢true, cond-true, cond-false}
+use Rattle.std.specs.List.{AllByRecursion}
+use Rattle.script.specs.Model.{Action, Branch, permute, shuffle, turn, committed, opened, none, LawfulAction, LawfulBranch}
 use Rattle.sheet.specs.Laws.{SmallProducts, CheckLaw}
 use Rattle.sheet.specs.Lines.{line_count}
 use Rattle.sheet.specs.Products.{Path, start, onward, total, shuffles, leads, targets, best, arrival, arrivals, greatest, limit}
@@ -17,7 +16,7 @@ use Rattle.sheet.specs.Lawful.{lawful_script}
 use Rattle.sheet.proofs.Multiplying.{arrivals_suc, length_arrivals, one_draw}
 use Rattle.sheet.specs.Passed.{passed, frames_read}
 
-target_onward : (lines l t next : ℕ) (bs : List Branch) → All (LawfulBranch lines l t) bs → targets bs next ≡ true → (l < next) × (next < lines)
+target_onward : (lines l t next : ℕ) (bs : List Branch) → AllByRecursion (LawfulBranch lines l t) bs → targets bs next ≡ true → (l < next) × (next < lines)
 target_onward lines l t next [] k e = absurd (false≢true e)
 target_onward lines l t next (b ∷ bs) k e =
     ⊎_elim

@@ -1,5 +1,5 @@
 -- The kinds of the results.
-use Rattle.std.proofs.Common.{◌≡◌, ℕ, Bool, true, false, cond, not, ◌&&◌, eqb, List, get_or, Some, None, sym, refl, ap, ◌∙◌}
+use Rattle.std.proofs.Common.{◌≡◌, ℕ, Bool, true, false, not, ◌&&◌, eqb, List, get_or, Some, None, sym, refl, ◌∙◌}
 use Rattle.std.proofs.lemmas.Bool.{ne_eqb, eq-eqb}
 use Rattle.heads.specs.declared.head.Head.{Head}
 use Rattle.heads.specs.Faults.{sheet_fault}

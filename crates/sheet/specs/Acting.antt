@@ -1,20 +1,19 @@
 -- The actions of a sheet whose frames keep their forms.
-use Rattle.std.specs.Prelude.{◌≡◌, ℕ, zero, suc, ◌+◌, ◌-◌, ◌*◌, ◌<◌, ◌≤◌, min, Bool, true, false, cond, ◌&&◌, ◌||◌, List, [], ◌∷◌, length, take, drop, Some, None, Option, ◌==◌, nat_eq, slice_index, refl}
+use Rattle.std.specs.Prelude.{◌≡◌, ℕ, zero, suc, ◌+◌, ◌-◌, ◌*◌, ◌<◌, ◌≤◌, Bool, true, false, cond, List, [], ◌∷◌, length, take, drop, None, ◌==◌, nat_eq, slice_index, refl}
 use Rattle.std.proofs.Common.{arith, sym, ap, ◌∙◌, subst}
-use Rattle.std.proofs.lemmas.List.{length-drop, length-take}
+use Rattle.std.proofs.lemmas.List.{length-drop}
 use Rattle.std.proofs.lemmas.Bool.{eqb-true}
 use Rattle.script.specs.Model as model
 use Rattle.heads.specs.declared.head.Head.{Head}
-use Rattle.format.specs.Form.{Form, wrong, ends, listed}
+use Rattle.format.specs.Form.{wrong, ends, listed}
 use Rattle.heads.specs.Heads.{deck_meaning}
 use Rattle.format.specs.Kinds.{head_form, head_rule, layout_form, code_rule, form_at}
 use Rattle.format.specs.Parts.{Parts, parts, permute, cut, explicit, turn, committed, opened, none}
 use Rattle.format.proofs.Inversion.{listed_fits, byte_fits}
 use Rattle.sheet.specs.Actions.{written_entries}
-use Rattle.sheet.specs.First.{first}
 use Rattle.sheet.specs.Lines.{left, frame, line_count}
 use Rattle.sheet.specs.Scripts.{head, action, action_of}
-use Rattle.sheet.specs.Verdicts.{line_fault, byte_fault, layout_fault}
+use Rattle.sheet.specs.Verdicts.{line_fault, byte_fault}
 use Rattle.sheet.specs.Counting.{Counted, FramesRead}
 use Rattle.sheet.specs.Firsts.{first_none_each, or_else_none, mapped_none}
 use Rattle.sheet.specs.Passing.{frame_later}

@@ -1,12 +1,11 @@
 -- Entries and branches, one after another.
-use Rattle.std.specs.Prelude.{◌≡◌, ℕ, zero, suc, ◌+◌, ◌-◌, ◌*◌, ◌<◌, ◌≤◌, min, Bool, true, false, cond, ◌||◌, ◌⊎◌, List, [], ◌∷◌, length, take, drop, ◌≢◌, slice_index, refl}
-use Rattle.std.proofs.Common.{add_assoc, add-one, arith, inl, inr, ⊎_elim, sym, ap, ◌∙◌, subst}
+use Rattle.std.specs.Prelude.{◌≡◌, ℕ, zero, suc, ◌+◌, ◌<◌, ◌≤◌, min, true, false, List, [], ◌∷◌, length, take, drop, ◌≢◌, slice_index, refl}
+use Rattle.std.proofs.Common.{arith, ⊎_elim, ap, ◌∙◌}
 use Rattle.std.proofs.lemmas.List.{length-drop}
 use Rattle.std.proofs.lemmas.Bool.{cases_lt, le-leb, lt-leb, eq-eqb, ne_eqb}
 use Rattle.std.proofs.lemmas.List.Sums.{sum_by-cons}
 use Rattle.cards.specs.Shuffles.{entries_of, weights}
 use Rattle.shuffles.specs.Entries.{entries_cons}
-use Rattle.script.specs.Model.{Branch}
 use Rattle.sheet.specs.Scripts.{branches_in, branches_of}
 use Rattle.sheet.specs.Products.{targets}
 use Rattle.sheet.specs.Splitting.{cut_back}

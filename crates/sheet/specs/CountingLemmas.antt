@@ -1,11 +1,11 @@
 -- The lines of a sheet that passes are counted.
-use Rattle.std.specs.Prelude.{◌≡◌, ℕ, ◌+◌, ◌<◌, ◌≤◌, Bool, true, false, ◌⊎◌, List, [], ◌∷◌, Some, None, Option, ◌≢◌, refl}
-use Rattle.std.proofs.Common.{arith, sym, ap, ◌∙◌, subst, ⊎_elim}
+use Rattle.std.specs.Prelude.{◌≡◌, ℕ, ◌<◌, ◌≤◌, true, false, ◌⊎◌, List, [], ◌∷◌, Some, None, Option, ◌≢◌, refl}
+use Rattle.std.proofs.Common.{arith, ⊎_elim}
 use Rattle.sheet.specs.First.{first, given, value_or}
 use Rattle.sheet.specs.Lines.{left, frame, no_more, line_count, bad_length}
 use Rattle.sheet.specs.Verdicts.{verdict}
 use Rattle.sheet.specs.Counting.{Counted}
-use Rattle.sheet.specs.Firsts.{first_none_each, found_at, given_none, some_none}
+use Rattle.sheet.specs.Firsts.{first_none_each, found_at, given_none}
 use Rattle.sheet.specs.Lawful.{few_lines}
 use Rattle.sheet.specs.Passed.{passed, frames_read}
 use Rattle.sheet.specs.Acting.{parts_early, parts_late}

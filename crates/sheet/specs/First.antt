@@ -1,5 +1,5 @@
 -- The first of several answers that is something.
-use Rattle.std.specs.Prelude.{ℕ, zero, suc, Bool, true, false, cond, List, [], ◌∷◌, Some, None, Option}
+use Rattle.std.specs.Prelude.{ℕ, zero, suc, Bool, cond, List, [], ◌∷◌, Some, None, Option}
 
 abbrev pub or_else : {X : Type 0} → Option X → Option X → Option X
 or_else None y = y

@@ -1,6 +1,6 @@
 -- The first of several answers, one step on and at the end.
-use Rattle.std.specs.Prelude.{◌≡◌, ℕ, zero, suc, ◌+◌, ◌-◌, ◌<◌, ◌≤◌, Bool, true, false, cond, ◌⊎◌, Some, None, Option, ◌≢◌}
-use Rattle.std.proofs.Common.{add-one, arith, inl, inr, ⊎_elim, sym, ap, ◌∙◌, subst}
+use Rattle.std.specs.Prelude.{◌≡◌, ℕ, zero, suc, ◌+◌, ◌<◌, Bool, true, false, ◌⊎◌, Some, None, Option, ◌≢◌}
+use Rattle.std.proofs.Common.{add-one, arith, inl, inr, ⊎_elim, sym, ◌∙◌, subst}
 use Rattle.std.proofs.Math.Path.{refl}
 use Rattle.std.proofs.lemmas.Bool.{cases_order}
 use Rattle.sheet.specs.First.{or_else, first, given, mapped}

@@ -1,30 +1,28 @@
 -- A sheet that passes is a lawful script.
-use Rattle.std.specs.Prelude.{◌≡◌, ℕ, zero, suc, pred, ◌+◌, ◌-◌, ◌*◌, ◌<◌, ◌≤◌, Bool, true, false, cond, not, ◌&&◌, ◌||◌, ◌⊎◌, List, [], ◌∷◌, ◌++◌, map, length, take, drop, Some, None, Option, nat_eq, slice_index, refl}
+use Rattle.std.specs.Prelude.{◌≡◌, ℕ, zero, suc, ◌+◌, ◌-◌, ◌*◌, ◌<◌, ◌≤◌, Bool, true, ◌⊎◌, List, [], ◌∷◌, ◌++◌, length, take, drop, Some, None, Option, nat_eq, slice_index, refl}
 use Rattle.std.proofs.Common.{arith, inl, inr, ⊎_elim, sym, ap, ◌∙◌, subst}
-use Rattle.std.proofs.lemmas.List.{take_at, drop_at, drop-drop, length-drop}
+use Rattle.std.proofs.lemmas.List.{take_at, drop_at, length-drop}
 use Rattle.std.proofs.ByRecursion.{All-weaker, All-from_get_or}
-use Rattle.std.proofs.lemmas.Bool.{cases_order, not-true, not-false, false≢true}
-use Rattle.std.specs.List.{flat_map, AllByRecursion as All}
-use Rattle.cards.specs.Lists.{distinct}
-use Rattle.cards.specs.Shuffles.{Entry, entries_of, weights}
+use Rattle.std.proofs.lemmas.Bool.{cases_order, not-false, false≢true}
+use Rattle.std.specs.List.{flat_map}
+use Rattle.cards.specs.Shuffles.{entries_of, weights}
 use Rattle.shuffles.specs.Positions.{distinct_range}
 use Rattle.script.specs.Model as model
 use Rattle.script.specs.Model.{LawfulScript, LawfulAction, LawfulBranch, Onward}
 use Rattle.heads.specs.declared.head.Head.{Head}
-use Rattle.heads.specs.declared.head.DeckKind.{DeckKind}
 use Rattle.format.specs.Form.{wrong, ends, listed}
 use Rattle.heads.specs.Heads.{deck_meaning}
-use Rattle.format.specs.Kinds.{form_at, layout_form, code_rule}
-use Rattle.format.specs.Parts.{Parts, parts}
+use Rattle.format.specs.Kinds.{form_at, code_rule}
+use Rattle.format.specs.Parts.{parts}
 use Rattle.format.proofs.Inversion.{byte_fits, ends_fits, listed_fits}
 use Rattle.writing.specs.Writing.{Line, permute, cut, explicit, turn, committed, opened, line_bytes, entry_bytes, branch_bytes, KeepsBranch, KeepsLine}
 use Rattle.writing.proofs.Frames.{line_reads}
 use Rattle.sheet.specs.First.{first, given, value_or}
 use Rattle.sheet.specs.Lines.{left, frame, no_more, line_count}
 use Rattle.sheet.specs.Scripts.{head, codes, action, action_of, branches_of, script_of}
-use Rattle.sheet.specs.Verdicts.{verdict, is_result, kind_at, line_fault, last_fault}
-use Rattle.sheet.specs.Firsts.{or_else_none, or_else_some, given_none, given_some, mapped_none, first_zero, first_none_each, first_suc, some_none}
-use Rattle.sheet.specs.Passed.{Passed, passed, head_known, layout_known}
+use Rattle.sheet.specs.Verdicts.{verdict, is_result, kind_at, line_fault}
+use Rattle.sheet.specs.Firsts.{or_else_some, given_none, given_some, mapped_none, first_zero, first_none_each, first_suc, some_none}
+use Rattle.sheet.specs.Passed.{passed, head_known, layout_known}
 use Rattle.sheet.specs.Passing.{frame_later}
 use Rattle.sheet.specs.Rebuilding.{entries_back, branches_back, weights_few, permuting}
 

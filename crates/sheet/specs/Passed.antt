@@ -1,18 +1,16 @@
 -- What is known of a sheet that passes.
-use Rattle.std.specs.Prelude.{◌≡◌, ℕ, zero, suc, ◌+◌, ◌-◌, ◌<◌, ◌≤◌, Bool, true, false, cond, List, [], ◌∷◌, length, is_some, Some, None, Option, nat_eq, refl}
-use Rattle.std.proofs.Common.{arith, sym, ap, ◌∙◌, subst}
+use Rattle.std.specs.Prelude.{◌≡◌, ℕ, ◌≤◌, false, List, length, is_some, Some, None, Option, nat_eq, refl}
+use Rattle.std.proofs.Common.{arith, sym, subst}
 use Rattle.std.proofs.lemmas.Bool.{ltb-false, true≢false}
 use Rattle.heads.specs.declared.head.Head.{Head}
-use Rattle.script.specs.Faults.{Fault}
 use Rattle.format.specs.Form.{wrong}
-use Rattle.format.specs.Kinds.{head_form, layout_form}
+use Rattle.format.specs.Kinds.{layout_form}
 use Rattle.format.proofs.Inversion.{head_kept, HeadKept, byte_fits}
-use Rattle.sheet.specs.First.{or_else, first, given}
+use Rattle.sheet.specs.First.{first}
 use Rattle.sheet.specs.Lines.{frame, line_count}
 use Rattle.sheet.specs.Scripts.{head}
-use Rattle.sheet.specs.Verdicts.{verdict, length_fault, few_fault, line_fault, result_fault, last_fault, product_fault}
+use Rattle.sheet.specs.Verdicts.{verdict, length_fault, line_fault, result_fault, last_fault, product_fault}
 use Rattle.sheet.specs.Counting.{Counted, FramesRead}
-use Rattle.sheet.specs.Acting.{head_fits, layout_fits}
 use Rattle.sheet.specs.Firsts.{or_else_none, given_none, mapped_none, first_none_each}
 
 pub not_some : {X : Type 0} (o : Option X) → is_some o ≡ false → o ≡ None

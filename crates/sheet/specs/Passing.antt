@@ -1,18 +1,17 @@
 -- The frames of a sheet, line by line.
-use Rattle.std.specs.Prelude.{◌≡◌, ℕ, zero, suc, ◌+◌, ◌-◌, ◌*◌, ◌<◌, ◌≤◌, min, Bool, true, false, cond, ◌||◌, List, [], ◌∷◌, length, Some, None, Option, ◌==◌, nat_le, nat_lt, refl}
-use Rattle.std.proofs.Common.{arith, sym, ap, ◌∙◌, subst}
+use Rattle.std.specs.Prelude.{◌≡◌, ℕ, zero, suc, ◌+◌, ◌<◌, ◌≤◌, false, ◌||◌, List, [], ◌∷◌, length, Some, None, ◌==◌, nat_le, nat_lt, refl}
+use Rattle.std.proofs.Common.{arith, sym, ap, ◌∙◌}
 use Rattle.std.proofs.lemmas.List.{length-take}
 use Rattle.std.proofs.lemmas.Bool.{or_parts, eqb-false, ltb-false, leb-false}
 use Rattle.heads.specs.declared.fault.SheetFault.{SheetFault}
 use Rattle.heads.specs.declared.head.Head.{Head}
-use Rattle.script.specs.Faults.{Fault}
-use Rattle.heads.specs.Faults.{shown, sheet_fault}
+use Rattle.heads.specs.Faults.{shown}
 use Rattle.format.specs.Form.{Form, wrong}
-use Rattle.format.specs.Kinds.{head_form, layout_form, form_at}
+use Rattle.format.specs.Kinds.{head_form, form_at}
 use Rattle.format.specs.Taking.{Faulty}
 use Rattle.heads.specs.Heads.{head_of}
 use Rattle.format.proofs.Inversion.{head_kept}
-use Rattle.sheet.specs.First.{or_else, first, given, mapped}
+use Rattle.sheet.specs.First.{first}
 use Rattle.sheet.specs.Lines.{left, frame, first_frame, bad_length, line_count}
 use Rattle.sheet.specs.Scripts.{head}
 use Rattle.sheet.specs.Verdicts.{length_fault, byte_fault, layout_fault, frame_fault, line_fault}

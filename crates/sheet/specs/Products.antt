@@ -1,5 +1,5 @@
 -- Products of totals along the paths of a script, from line 2 on, by next lines and targets.
-use Rattle.std.specs.Prelude.{◌≡◌, ℕ, zero, suc, ◌+◌, ◌*◌, ◌^◌, ◌≤◌, max, Bool, true, false, cond, ◌||◌, List, [], ◌∷◌, ◌++◌, ◌==◌, slice_index}
+use Rattle.std.specs.Prelude.{◌≡◌, ℕ, zero, suc, ◌*◌, ◌^◌, max, Bool, true, false, cond, ◌||◌, List, [], ◌∷◌, ◌++◌, ◌==◌, slice_index}
 use Rattle.script.specs.Model.{Action, Branch, permute, shuffle, turn, committed, opened, none}
 
 -- how many draws the line has: one where there is nothing to draw

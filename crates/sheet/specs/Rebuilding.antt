@@ -1,25 +1,21 @@
 -- The actions of lines as they are written.
-use Rattle.std.specs.Prelude.{◌≡◌, ℕ, zero, suc, pred, ◌+◌, ◌-◌, ◌*◌, ◌<◌, ◌≤◌, Bool, true, false, ◌&&◌, List, [], ◌∷◌, ◌++◌, map, length, take, drop, ◌==◌, slice_index, slice_index_or, refl}
-use Rattle.std.proofs.Common.{add-one, arith, sym, ap, ◌∙◌, subst}
-use Rattle.std.proofs.lemmas.List.{take_at, drop_at, get_or_at, append_assoc, length-append, length-map, get_or-map, get_or_past, drop-drop, drop-append-le}
-use Rattle.std.proofs.ByRecursion.{All-weaker, All-from_get_or}
+use Rattle.std.specs.Prelude.{◌≡◌, ℕ, zero, suc, pred, ◌-◌, ◌*◌, ◌<◌, ◌≤◌, true, List, [], ◌∷◌, ◌++◌, map, length, take, drop, ◌==◌, slice_index, slice_index_or, refl}
+use Rattle.std.proofs.Common.{add-one, arith, sym, ap, ◌∙◌}
+use Rattle.std.proofs.lemmas.List.{take_at, drop_at, get_or_at, append_assoc, length-append, length-map, get_or-map, drop-drop}
 use Rattle.std.proofs.lemmas.List.Sums.{sum_by-cons}
 use Rattle.std.proofs.lemmas.Bool.{and_parts, eqb-true}
-use Rattle.std.specs.List.{flat_map, AllByRecursion as All}
+use Rattle.std.specs.List.{flat_map, AllByRecursion}
 use Rattle.cards.specs.Lists.{distinct}
-use Rattle.cards.specs.Shuffles.{Entry, Permutes, permutes, entries_of, weights}
+use Rattle.cards.specs.Shuffles.{Entry, Permutes, entries_of, weights}
 use Rattle.shuffles.specs.Entries.{entries_cons}
 use Rattle.shuffles.specs.Positions.{distinct_range, distinct_apart}
 use Rattle.script.specs.Model as model
-use Rattle.heads.specs.declared.head.Head.{Head}
-use Rattle.heads.specs.declared.head.DeckKind.{DeckKind}
-use Rattle.format.specs.Parts.{Parts, parts}
-use Rattle.writing.specs.Writing.{Line, permute, cut, explicit, turn, committed, opened, line_bytes, entry_bytes, branch_bytes, KeepsEntry, KeepsBranch, KeepsLine}
-use Rattle.sheet.specs.Scripts.{branches_of, action_of}
+use Rattle.writing.specs.Writing.{entry_bytes, branch_bytes, KeepsEntry}
+use Rattle.sheet.specs.Scripts.{branches_of}
 use Rattle.sheet.specs.Chunks.{branches_step}
 
 -- entries that are written one after another are read back
-pub entries_back : (q : ℕ) (es : List Entry) → All (KeepsEntry q) es → entries_of q (flat_map entry_bytes es) ≡ es
+pub entries_back : (q : ℕ) (es : List Entry) → AllByRecursion (KeepsEntry q) es → entries_of q (flat_map entry_bytes es) ≡ es
 entries_back q [] k = refl
 entries_back q (e ∷ es) k =
     let l : length e.images ≡ q = eqb-true _ q (and_parts (length e.images == q) (distinct 0 (q - 1) e.images) k.0.permuted).0 in
@@ -30,7 +26,7 @@ entries_back q (e ∷ es) k =
     ∙ ap (λ rest. e ∷ rest) (entries_back q es k.1)))
 
 -- branches that are written one after another are read back
-pub branches_back : (t : ℕ) (bs : List model.Branch) → All (λ b. length b.marks ≡ t) bs → branches_of t (flat_map branch_bytes bs) ≡ bs
+pub branches_back : (t : ℕ) (bs : List model.Branch) → AllByRecursion (λ b. length b.marks ≡ t) bs → branches_of t (flat_map branch_bytes bs) ≡ bs
 branches_back t [] k = refl
 branches_back t (b ∷ bs) k =
     let rest = flat_map branch_bytes bs in
@@ -50,7 +46,7 @@ branches_back t (b ∷ bs) k =
     ∙ ap (λ x. b ∷ x) (branches_back t bs k.1)))))
 
 -- the weights of a few entries
-pub weights_few : (q : ℕ) (es : List Entry) → All (KeepsEntry q) es → (length es ≤ weights es) × (weights es ≤ 255 * length es)
+pub weights_few : (q : ℕ) (es : List Entry) → AllByRecursion (KeepsEntry q) es → (length es ≤ weights es) × (weights es ≤ 255 * length es)
 weights_few q [] k = (omega arith, omega arith)
 weights_few q (e ∷ es) k =
     let s = sum_by-cons (λ (x : Entry). x.weight) e es in

@@ -1,5 +1,5 @@
 -- The script that a sheet writes.
-use Rattle.std.specs.Prelude.{ℕ, zero, suc, pred, ◌+◌, cond, List, [], ◌∷◌, map, length, take, drop, nat_le, slice_index}
+use Rattle.std.specs.Prelude.{ℕ, zero, suc, pred, cond, List, [], ◌∷◌, map, length, take, drop, nat_le, slice_index}
 use Rattle.cards.specs.Shuffles.{weights, entries_of}
 use Rattle.script.specs.Model as model
 use Rattle.heads.specs.declared.head.Head.{Head}

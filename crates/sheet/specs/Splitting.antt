@@ -1,15 +1,14 @@
 -- The lines of a sheet, one after another.
-use Rattle.std.specs.Prelude.{◌≡◌, ℕ, zero, suc, ◌+◌, ◌-◌, ◌<◌, ◌≤◌, min, Bool, true, false, cond, ◌||◌, ◌⊎◌, List, [], ◌∷◌, length, take, drop, Some, None, Option, ◌==◌, nat_lt, slice_index, refl}
+use Rattle.std.specs.Prelude.{◌≡◌, ℕ, zero, suc, ◌+◌, ◌-◌, ◌<◌, ◌≤◌, min, Bool, true, false, ◌||◌, ◌⊎◌, List, [], ◌∷◌, length, take, drop, Some, None, ◌==◌, nat_lt, slice_index, refl}
 use Rattle.std.proofs.Common.{add-zero, add-suc, add-one, arith, inl, inr, ⊎_elim, sym, ap, ◌∙◌, subst}
-use Rattle.std.proofs.lemmas.List.{drop_all, take_all, length-take-le, nil_from_length}
-use Rattle.std.proofs.lemmas.Bool.{cases_lt, or_parts, eqb-false, ltb-false, leb-false}
-use Rattle.script.specs.Faults.{Fault}
+use Rattle.std.proofs.lemmas.List.{drop_all, take_all, nil_from_length}
+use Rattle.std.proofs.lemmas.Bool.{cases_lt}
 use Rattle.heads.specs.Faults.{sheet_fault}
-use Rattle.sheet.specs.First.{or_else, first, given, value_or}
-use Rattle.sheet.specs.Lines.{left, frame, first_frame, after_first, bad_length, no_more, line_count}
+use Rattle.sheet.specs.First.{first, given, value_or}
+use Rattle.sheet.specs.Lines.{left, first_frame, after_first, bad_length, no_more}
 use Rattle.sheet.specs.Verdicts.{length_fault}
 use Rattle.sheet.specs.Counting.{Counted}
-use Rattle.sheet.specs.Firsts.{first_zero, first_more, first_none_each, first_from_each, first_some, given_none}
+use Rattle.sheet.specs.Firsts.{first_zero, first_more, first_none_each, first_from_each, first_some}
 
 pub left_zero : (sheet : List ℕ) → left sheet 0 ≡ sheet
 unfolding left

@@ -1,5 +1,5 @@
 -- Which answer check gives.
-use Rattle.std.specs.Prelude.{ℕ, zero, suc, ◌+◌, ◌-◌, ◌*◌, Bool, true, false, cond, not, ◌&&◌, ◌||◌, List, [], ◌∷◌, length, drop, Some, None, Option, ◌==◌, nat_lt, slice_index}
+use Rattle.std.specs.Prelude.{ℕ, zero, suc, ◌+◌, ◌-◌, ◌*◌, Bool, not, ◌&&◌, ◌||◌, List, [], ◌∷◌, drop, Option, ◌==◌, nat_lt, slice_index}
 use Rattle.cards.specs.Lists.{member}
 use Rattle.heads.specs.declared.head.Output.{Output}
 use Rattle.heads.specs.declared.head.Output.TheVariants.{Committed, Open}

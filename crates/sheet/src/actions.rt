@@ -4,7 +4,7 @@ ghost use Rattle.cards.specs.Shuffles.{weights, entries_of};
 ghost use Rattle.format.specs.Views.{view};
 ghost use Rattle.sheet.specs.Actions.{shows, written_entries};
 ghost use Rattle.sheet.specs.Counting.{Counted, FramesRead};
-ghost use Rattle.sheet.specs.Products.{total as draws, shuffles as draws-some, leads, targets};
+ghost use Rattle.sheet.specs.Products.{total as draws, shuffles as draws_some, leads, targets};
 ghost use Rattle.sheet.specs.Scripts.{action_of, action, branches_of};
 
 use crate::action::Action;
@@ -78,7 +78,7 @@ impl Action<'_> {
     }
 
     pub fn is_shuffle(&self) -> bool
-        ensures { result ≡ draws-some (shows self.now) }
+        ensures { result ≡ draws_some (shows self.now) }
     {
         matches!(self, Action::Shuffle { .. })
     }

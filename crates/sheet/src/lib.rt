@@ -1,4 +1,6 @@
 // Sheets, their check, and checked scripts.
+#![tactic(auto)]
+
 pub mod action;
 pub mod actions;
 pub mod bank;

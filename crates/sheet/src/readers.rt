@@ -4,7 +4,7 @@ ghost use Rattle.format.specs.Parts.{parts};
 ghost use Rattle.format.specs.Views.{view};
 ghost use Rattle.sheet.specs.Actions.{shows};
 ghost use Rattle.sheet.specs.Counting.{Counted, FramesRead};
-ghost use Rattle.sheet.specs.Lines.{frame as frame-of, line_count};
+ghost use Rattle.sheet.specs.Lines.{frame as frame_of, line_count};
 ghost use Rattle.sheet.specs.Scripts.{head as head_in};
 ghost use Rattle.script.specs.Model.{LawfulScript};
 ghost use Rattle.sheet.specs.Laws.{SmallProducts};
@@ -79,7 +79,7 @@ impl CheckedScript {
     // The frame of a line from 2 on, with its parts.
     pub fn frame(&self, line: u8) -> Frame<'_>
         requires { (2 ≤ line) × (line < (script self.now).lines) }
-        ensures { view result ≡ parts (frame-of (script_bytes self.now) line) }
+        ensures { view result ≡ parts (frame_of (script_bytes self.now) line) }
     {
         let bytes = self.written();
         let lines = lines_of(bytes);

@@ -1,7 +1,7 @@
 -- The greatest product of the paths to a line is that of a path.
-use Rattle.std.proofs.Common.{◌≡◌, ℕ, zero, suc, ◌+◌, ◌-◌, ◌*◌, ◌<◌, ◌≤◌, max, Bool, true, false, cond, eqb, ◌⊎◌, List, [], ◌∷◌, ◌++◌, length, get_or, sym, refl, ap, ◌∙◌, subst, inl, inr, ⊎_elim, zero-mul, arith}
+use Rattle.std.proofs.Common.{◌≡◌, ℕ, zero, suc, ◌*◌, ◌<◌, ◌≤◌, true, eqb, List, [], ◌∷◌, get_or, sym, ap, ◌∙◌, subst, ⊎_elim, zero-mul, arith}
 use Rattle.std.proofs.lemmas.List.{get_or_push, get_or_append_left}
-use Rattle.std.proofs.lemmas.Bool.{cases_Bool, cases_lt, cases_order, cases_eq, eq-eqb, ne_eqb, cond-true, cond-false}
+use Rattle.std.proofs.lemmas.Bool.{cases_Bool, cases_lt, cases_order, cases_eq, ne_eqb, cond-true, cond-false}
 use Rattle.script.specs.Model.{Action}
 use Rattle.sheet.specs.Products.{Path, start, onward, total, leads, best, arrival, arrivals, greatest, limit}
 use Rattle.sheet.proofs.Multiplying.{arrivals_suc, length_arrivals}

@@ -1,31 +1,29 @@
 -- A sheet passes exactly when its bytes are the writing of a script that keeps every rule.
-use Rattle.std.proofs.Common.{◌≡◌, ℕ, zero, suc, ◌+◌, ◌-◌, ◌*◌, ◌<◌, ◌≤◌, Bool, true, false, cond, not, ◌&&◌, ◌||◌, eqb, ltb, ◌⊎◌, List, [], ◌∷◌, ◌++◌, map, length, get_or, take, drop, Some, None, Option, sym, refl, ap, ◌∙◌, subst, inl, inr, ⊎_elim, arith}
+use Rattle.std.proofs.Common.{◌≡◌, ℕ, zero, suc, ◌+◌, ◌-◌, ◌<◌, ◌≤◌, Bool, true, false, not, ◌&&◌, eqb, List, [], ◌∷◌, length, get_or, None, sym, refl, ap, ◌∙◌, subst, ⊎_elim, arith}
 use Rattle.std.proofs.lemmas.List.{length-map, get_or-map}
-use Rattle.std.proofs.lemmas.Bool.{cases_Bool, eq-eqb, eqb-true, le-ltb, not-false, and_parts}
-use Rattle.std.specs.List.{flat_map}
-use Rattle.heads.specs.declared.head.Head.{Head}
+use Rattle.std.proofs.lemmas.Bool.{cases_Bool, eq-eqb, eqb-true, le-ltb, not-false}
 use Rattle.heads.specs.Faults.{sheet_fault}
 use Rattle.heads.specs.Heads.{head_of}
 use Rattle.format.specs.Form.{wrong}
-use Rattle.format.specs.Kinds.{head_form, layout_form, form_at, known, form_after, kinds, one_of}
+use Rattle.format.specs.Kinds.{head_form, form_at, known, form_after, kinds}
 use Rattle.format.proofs.Inversion.{byte_fits}
 use Rattle.format.proofs.Kinding.{form_later}
-use Rattle.writing.specs.Writing.{Line, permute, cut, explicit, turn, committed, opened, head_bytes, layout_bytes, line_bytes, KeepsLayout, KeepsLine}
+use Rattle.writing.specs.Writing.{Line, permute, cut, explicit, turn, committed, opened, layout_bytes, line_bytes, KeepsLayout, KeepsLine}
 use Rattle.writing.proofs.Frames.{line_accepts, line_reads}
-use Rattle.sheet.specs.First.{or_else, first_of, first, given, mapped}
+use Rattle.sheet.specs.First.{given}
 use Rattle.sheet.specs.Laws.{SmallProducts}
 use Rattle.sheet.specs.Lines.{left, frame, first_frame, line_count}
 use Rattle.sheet.specs.Products.{shuffles, greatest, limit}
 use Rattle.sheet.specs.Scripts.{head, codes, action, script_of}
-use Rattle.sheet.specs.Verdicts.{verdict, length_fault, few_fault, byte_fault, layout_fault, line_fault, result_fault, last_fault, product_fault, is_result, result_kind, kind_at, missing_code}
+use Rattle.sheet.specs.Verdicts.{verdict, few_fault, layout_fault, line_fault, result_fault, last_fault, product_fault, is_result, result_kind, kind_at, missing_code}
 use Rattle.sheet.specs.CountingLemmas.{counted_sheet}
 use Rattle.sheet.specs.Firsts.{first_from_each, first_none_each, given_none, mapped_none, or_else_none}
 use Rattle.sheet.specs.Lawful.{few_lines, line_kept}
 use Rattle.sheet.specs.Passed.{passed, layout_known, layout_some, head_known}
-use Rattle.sheet.specs.Passing.{frame_short, frame_later, right_byte}
+use Rattle.sheet.specs.Passing.{frame_short, right_byte}
 use Rattle.sheet.proofs.Paths.{small_products}
 use Rattle.sheet.specs.Splitting.{left_zero}
-use Rattle.sheet_law.specs.Whole.{Writing, frames, framed, writing_bytes, kind_of, KeepsRules, SheetLaw}
+use Rattle.sheet_law.specs.Whole.{Writing, frames, writing_bytes, kind_of, KeepsRules, SheetLaw}
 use Rattle.sheet_law.proofs.Attaining.{greatest_small}
 use Rattle.sheet_law.proofs.Framing.{frame_join, join_sound, join_count, rejoined}
 use Rattle.sheet_law.proofs.Heading.{head_accepts, head_back, head_reads, head_again, layout_accepts, players_there, layout_reads}

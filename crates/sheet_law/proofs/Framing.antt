@@ -1,11 +1,11 @@
 -- Frames one after another, each behind its length byte.
-use Rattle.std.proofs.Common.{◌≡◌, ℕ, zero, suc, ◌+◌, ◌-◌, ◌*◌, ◌<◌, ◌≤◌, Bool, true, false, cond, ◌||◌, eqb, ltb, leb, ◌⊎◌, List, [], ◌∷◌, ◌++◌, length, get_or, take, drop, Some, None, Option, sym, refl, ap, ◌∙◌, subst, inl, inr, ⊎_elim, add-one, arith}
+use Rattle.std.proofs.Common.{◌≡◌, ℕ, zero, suc, ◌+◌, ◌<◌, ◌≤◌, true, false, List, [], ◌∷◌, ◌++◌, length, get_or, take, drop, None, sym, refl, ap, ◌∙◌, subst, ⊎_elim, add-one, arith}
 use Rattle.std.proofs.lemmas.List.{drop_more, drop_all, get_or_past, take_at, drop_at, length-append, take-append-drop, length-take-le}
 use Rattle.std.proofs.lemmas.Bool.{cases_lt, ne_eqb, le-ltb, lt-leb, or_from}
 use Rattle.std.specs.List.{flat_map}
 use Rattle.sheet.specs.First.{first, given, value_or}
 use Rattle.sheet.specs.Lines.{left, frame, first_frame, after_first, bad_length, no_more, line_count}
-use Rattle.sheet.specs.Verdicts.{verdict, length_fault}
+use Rattle.sheet.specs.Verdicts.{length_fault}
 use Rattle.sheet.specs.Firsts.{first_from_each, first_some}
 use Rattle.sheet.specs.Passing.{sound_line, sound_length}
 use Rattle.sheet.specs.Splitting.{left_zero, left_suc, left_more}

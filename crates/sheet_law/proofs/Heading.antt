@@ -1,7 +1,7 @@
 -- The head and the layout: written by their rules they are accepted, and accepted bytes are so written.
-use Rattle.std.proofs.Common.{◌≡◌, ℕ, zero, suc, ◌+◌, ◌-◌, ◌*◌, ◌^◌, ◌<◌, ◌≤◌, Bool, true, false, cond, not, ◌&&◌, ◌||◌, eqb, ltb, leb, ◌⊎◌, List, [], ◌∷◌, ◌++◌, length, get_or, take, drop, Some, None, sym, refl, ap, ◌∙◌, subst, inl, inr, ⊎_elim, arith}
+use Rattle.std.proofs.Common.{◌≡◌, ℕ, zero, suc, ◌+◌, ◌*◌, ◌^◌, ◌<◌, ◌≤◌, Bool, true, not, eqb, leb, List, [], ◌∷◌, ◌++◌, length, get_or, take, drop, None, sym, refl, ap, ◌∙◌, subst, ⊎_elim, arith}
 use Rattle.std.proofs.lemmas.List.{append-nil, get_or-take, length-take-le}
-use Rattle.std.proofs.lemmas.Bool.{and_parts, and_from, cases_Bool, or_left, or_right, or_cases, not_from_false, not_from_true, not-true, not-false, eqb-true, leb-true, ltb-true, le-leb, lt-ltb, both_ways}
+use Rattle.std.proofs.lemmas.Bool.{and_parts, and_from, cases_Bool, or_left, or_right, or_cases, not_from_false, not_from_true, not-true, not-false, eqb-true, leb-true, ltb-true, le-leb, lt-ltb}
 use Rattle.cards.specs.Lists.{member}
 use Rattle.heads.specs.declared.head.Head.{Head}
 use Rattle.heads.specs.declared.head.DeckKind.{DeckKind}
@@ -9,16 +9,16 @@ use Rattle.heads.specs.declared.head.DeckKind.TheVariants.{TwoColour, Standard}
 use Rattle.heads.specs.declared.head.Output.{Output}
 use Rattle.heads.specs.declared.head.Output.TheVariants.{Committed, Open}
 use Rattle.heads.specs.Heads.{deck_byte, deck_of_byte, deck_meaning, output_byte, output_of_byte, head_of}
-use Rattle.format.specs.Form.{Form, ends, byte, wrong, listed}
+use Rattle.format.specs.Form.{ends, wrong, listed}
 use Rattle.format.specs.Kinds.{from_to, head_rule, head_form, code_rule, layout_form}
 use Rattle.format.proofs.Inversion.{byte_fits, ends_fits, listed_fits}
-use Rattle.sheet.specs.First.{first, given}
+use Rattle.sheet.specs.First.{given}
 use Rattle.sheet.specs.Verdicts.{missing_code}
 use Rattle.sheet.specs.Firsts.{first_from_each, first_none_each, given_none}
 use Rattle.writing.specs.Writing.{head_bytes, layout_bytes, KeepsHead, KeepsLayout}
 use Rattle.writing.proofs.Accepting.{listed_accepts}
 use Rattle.writing.proofs.Lines.{Got, got, first_rest}
-use Rattle.writing.proofs.Listing.{in_range, from_range, member_index, index_member, not_before, before_not}
+use Rattle.writing.proofs.Listing.{in_range, from_range, member_index, before_not}
 
 -- the head
 deck_low : (d : DeckKind) → leb (deck_byte d) 1 ≡ true

@@ -1,6 +1,8 @@
 // Runs check over a table of sheets. Each line of standard input has the number, line and place of the refusal that
 // must come, 0 0 0 for a sheet that passes, and then the frames in hexadecimal; a word that begins with '=' has bytes
 // as they stand, without a length byte before them. A line that begins with '#' is passed over.
+#![tactic(auto)]
+
 use sheet::states::Sheet;
 use sheet_text::{TextFault, add_line, frame_bytes};
 use std::alloc::Global;

@@ -1,4 +1,6 @@
 // A sheet as text: a frame to a line, in hexadecimal digits. Blanks are passed over, and so is what follows a '#'.
+#![tactic(auto)]
+
 ghost use Rattle.std.specs.Prelude.{◌≡◌};
 ghost use Rattle.sheet_text.specs.Hex.{digit_value};
 

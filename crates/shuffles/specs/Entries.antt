@@ -1,11 +1,11 @@
 -- Entries read from bytes, and the shuffle that they list.
-use Rattle.std.specs.Prelude.{◌≡◌, ℕ, zero, suc, ◌+◌, ◌-◌, ◌*◌, ◌<◌, ◌≤◌, Bool, true, false, cond, not, ◌&&◌, ◌||◌, ◌⊎◌, List, [], ◌∷◌, ◌++◌, length, get_or, take, drop, replicate, sum_by, ◌≢◌, nat_le, slice_index, slice_index_or, refl}
-use Rattle.std.proofs.Common.{sym, ap, subst, ◌∙◌, inl, inr, ⊎_elim, arith}
-use Rattle.std.proofs.lemmas.Bool.{cases_lt, cases_Bool, and_parts, and_from, and_left, and_right, leb-true, le-leb, lt-leb, eqb-true, eq-eqb, ne_eqb, cond_both, cond-true, cond-false, both_ways}
-use Rattle.std.proofs.lemmas.List.{length-take, length-drop, length-append, length-replicate, get_or_append_left, get_or-append_right, get_or-replicate, drop_more, get_or_past, get_or_default, take_rest}
+use Rattle.std.specs.Prelude.{◌≡◌, ℕ, zero, suc, ◌+◌, ◌-◌, ◌<◌, ◌≤◌, Bool, true, false, ◌&&◌, List, [], ◌∷◌, length, get_or, take, drop, replicate, ◌≢◌, nat_le, slice_index, slice_index_or, refl}
+use Rattle.std.proofs.Common.{sym, ap, subst, ◌∙◌, ⊎_elim, arith}
+use Rattle.std.proofs.lemmas.Bool.{cases_lt, and_parts, and_from, and_left, and_right, leb-true, le-leb, lt-leb, eqb-true, eq-eqb, ne_eqb, cond_both}
+use Rattle.std.proofs.lemmas.List.{length-take, length-drop, length-replicate, get_or_append_left, get_or-append_right, get_or-replicate, get_or_default, take_rest}
 use Rattle.std.proofs.lemmas.List.Sums.{sum_by-cons}
-use Rattle.cards.specs.Lists.{member, distinct, position}
-use Rattle.cards.specs.Shuffles.{ShuffleMeaning, LawfulShuffle, Entry, still, entries_in, entries_of, spelled, weights, sound_entries, permutes, counted, entries_fit, explicit}
+use Rattle.cards.specs.Lists.{distinct}
+use Rattle.cards.specs.Shuffles.{LawfulShuffle, Entry, entries_in, entries_of, spelled, weights, sound_entries, entries_fit, explicit}
 use Rattle.shuffles.specs.Positions.{distinct_range, distinct_apart}
 use Rattle.shuffles.specs.Lawful.{lawful_still}
 

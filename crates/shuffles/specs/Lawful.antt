@@ -1,15 +1,14 @@
 -- Each shuffle and each layer keeps the laws of a shuffle.
-use Rattle.std.specs.Prelude.{◌≡◌, ℕ, zero, suc, ◌+◌, ◌-◌, ◌*◌, ◌/◌, ◌%◌, ◌<◌, ◌≤◌, Bool, true, false, cond, ◌&&◌, ◌⊎◌, List, [], ◌∷◌, length, get_or, ◌≢◌, slice_index, slice_index_or, refl}
-use Rattle.std.proofs.Common.{sym, ap, subst, ◌∙◌, inl, inr, ⊎_elim, arith, mod-lt, mod-eq_of_lt, div-add-mod', mul_comm, zero-add}
+use Rattle.std.specs.Prelude.{◌≡◌, ℕ, ◌+◌, ◌-◌, ◌*◌, ◌/◌, ◌%◌, ◌<◌, ◌≤◌, Bool, true, false, cond, List, [], length, get_or, ◌≢◌, slice_index, slice_index_or}
+use Rattle.std.proofs.Common.{sym, ap, subst, ◌∙◌, ⊎_elim, arith, mod-lt, mod-eq_of_lt, div-add-mod', mul_comm, zero-add}
 use Rattle.std.proofs.Math.Nat.{mod-eq-sub-mod}
 use Rattle.std.proofs.lemmas.List.FromFn.{get_or-map-range_with_len, length-map-range_with_len}
-use Rattle.std.proofs.lemmas.Bool.{cond_both, cases_lt, and_parts, leb-true, ltb-true, eqb-true, cond-true, cond-false, and_from, lt-ltb, and_left, and_right, le-ltb, cases_Bool, both_ways}
+use Rattle.std.proofs.lemmas.Bool.{cond_both, cases_lt, and_parts, leb-true, eqb-true, cond-true, cond-false, and_from, lt-ltb, and_left, and_right, le-ltb, cases_Bool, both_ways}
 use Rattle.std.proofs.lemmas.Nat.{mul-add-lt, div-mul-add, mod-mul-add, div_below, mod_below, mul-le}
-use Rattle.std.proofs.lemmas.Bool.Decides.{nat_tests}
 use Rattle.cards.specs.Shuffles.{ShuffleMeaning, LawfulShuffle, image, still, stopped, cut, cut_fits, piles, piles_fit, places, places_fit, permutation, permutations, Permutes, Listed}
 use Rattle.cards.specs.Rows.{OneToOne}
 use Rattle.cards.specs.Lists.{member, distinct, position}
-use Rattle.shuffles.specs.Positions.{position_below, position_out, member_getD, distinct_range, distinct_apart, member_is}
+use Rattle.shuffles.specs.Positions.{position_below, member_getD, distinct_range, distinct_apart, member_is}
 
 pub image_in : (m : ShuffleMeaning) (d s : ℕ) → d < m.total → s < m.width → image m d s ≡ m.sends d s
 image_in m d s hd hs = cond-true _ _ _ (and_from _ _ (lt-ltb _ _ hd) (lt-ltb _ _ hs))

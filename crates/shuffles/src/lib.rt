@@ -1,4 +1,6 @@
 // Shuffles as an interface, the shuffles and layers of the house, and banks of shuffles.
+#![tactic(auto)]
+
 pub mod bank;
 pub mod bytes;
 pub mod cut;

@@ -6,7 +6,7 @@ use Rattle.cards.specs.Shuffles.{ShuffleMeaning}
 use Rattle.cards.specs.declared.reading.Reading.{Reading}
 use Rattle.cards.specs.declared.reading.Reading.TheVariants.{Zero, One, Neither}
 use Rattle.cards.specs.declared.row.Row.{Row}
-use Rattle.protocol.specs.Machine.{Protocol, laid, inputs}
+use Rattle.protocol.specs.Machine.{Protocol, laid}
 use Rattle.protocol.specs.Table as model
 use Rattle.protocol.specs.Table.{replied}
 use Rattle.sheet.specs.Sheets.{script}

@@ -9,7 +9,7 @@ use crate::fault::TableFault;
 use crate::laying::lay_cards;
 use crate::moves::{permute_row, shuffle_row};
 use crate::phase::Phase;
-use crate::writing::write_marks;
+use crate::recording::write_marks;
 use cards::deck::Deck;
 use cards::place::Place;
 use cards::row::Row;

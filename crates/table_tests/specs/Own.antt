@@ -1,5 +1,5 @@
 -- A deck of this crate's own making.
-use Rattle.std.specs.Prelude.{ℕ, zero, suc, ◌+◌, ◌-◌, ◌*◌, ◌/◌, ◌%◌, ◌^◌, Bool, true, false, cond, ◌&&◌, ◌||◌, ◌==◌}
+use Rattle.std.specs.Prelude.{◌+◌, ◌-◌, ◌/◌, ◌%◌, false, cond, ◌&&◌, ◌==◌}
 use Rattle.cards.specs.Decks.{DeckMeaning, bit, player_code}
 use Rattle.cards.specs.declared.reading.Reading.TheVariants.{Zero, One, Neither}
 

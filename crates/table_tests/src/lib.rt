@@ -1,4 +1,6 @@
 // A table lent another deck or bank than its script was certified with.
+#![tactic(auto)]
+
 ghost use Rattle.std.specs.Prelude.{◌≡◌};
 ghost use Rattle.table_tests.specs.Own.{raised};
 ghost use Rattle.std.proofs.Common.{rules};

@@ -1,20 +1,19 @@
 -- Lines that a walk arrives at, and the totals of the states there.
-use Rattle.std.proofs.Common.{◌≡◌, ℕ, zero, suc, ◌+◌, ◌*◌, ◌^◌, ◌<◌, ◌≤◌, Bool, true, false, cond, ◌||◌, eqb, List, [], ◌∷◌, ◌++◌, map, length, get_or, take, drop, Some, None, Option, sym, refl, ap, ◌∙◌, subst, mul_comm, mul-le-mul_left, le-mul_of_pos_right, arith, MatchOption}
-use Rattle.std.proofs.lemmas.Bool.{eq-eqb, false≢true}
+use Rattle.std.proofs.Common.{◌≡◌, ℕ, ◌*◌, ◌<◌, ◌≤◌, Bool, true, false, cond, ◌||◌, eqb, List, [], ◌∷◌, ◌++◌, length, Some, None, Option, refl, ap, ◌∙◌, subst, mul_comm, mul-le-mul_left, le-mul_of_pos_right, arith}
+use Rattle.std.proofs.lemmas.Bool.{eq-eqb}
 use Rattle.std.proofs.lemmas.List.{length-take}
-use Rattle.std.specs.List.{flat_map, AllByRecursion as All}
-use Rattle.script.specs.Model as model
+use Rattle.std.specs.List.{flat_map, AllByRecursion}
 use Rattle.script.specs.Model.{Action, Branch, permute, shuffle, turn, committed, opened, none, LawfulAction, LawfulBranch, Onward}
 use Rattle.protocol.specs.Machine.{same, target}
 use Rattle.protocol.specs.States.{Row, total_of}
 use Rattle.heads.specs.declared.head.Head.{Head}
 use Rattle.format.specs.Parts.{parts}
 use Rattle.rows.specs.declared.row.Row as code
-use Rattle.rows.specs.Views.{rows_view, Small, Written, Put}
+use Rattle.rows.specs.Views.{Small, Put}
 use Rattle.sheet.specs.declared.states.CheckedScript.{CheckedScript}
 use Rattle.sheet.specs.Lines.{frame, line_count}
-use Rattle.sheet.specs.Products.{Path, onward, total, leads, targets, limit}
-use Rattle.sheet.specs.Scripts.{head, action, action_of}
+use Rattle.sheet.specs.Products.{onward, total, leads, targets}
+use Rattle.sheet.specs.Scripts.{head, action_of}
 use Rattle.sheet.specs.Sheets.{script, script_bytes}
 use Rattle.sheet.specs.Verdicts.{verdict}
 use Rattle.sheet.specs.Lawful.{line_kept}
@@ -22,7 +21,7 @@ use Rattle.sheet.specs.Passed.{not_some}
 use Rattle.writing.specs.Writing as writing
 use Rattle.writing.specs.Writing.{Line, line_bytes, branch_bytes, KeepsLine}
 use Rattle.writing.proofs.Frames.{line_reads}
-use Rattle.tree.specs.Walks.{Standing, Arrived, Entered, Held}
+use Rattle.tree.specs.Walks.{Standing, Arrived, Held}
 
 some_draws : (n lines l : ℕ) (a : Action) → LawfulAction n lines l a → 1 ≤ total a
 some_draws n lines l (permute images next) h = omega arith
@@ -87,7 +86,7 @@ target_leads marks (b ∷ bs) x e = go (same b.marks marks) e (target_leads mark
         or_right true h = refl
         or_right false h = h
 
-pub target_onward : (lines l t : ℕ) (marks : List ℕ) (bs : List Branch) (x : ℕ) → All (LawfulBranch lines l t) bs → target marks bs ≡ Some x → Onward lines l x
+pub target_onward : (lines l t : ℕ) (marks : List ℕ) (bs : List Branch) (x : ℕ) → AllByRecursion (LawfulBranch lines l t) bs → target marks bs ≡ Some x → Onward lines l x
 target_onward lines l t marks [] x h e = absurd (let z : ◌≡◌ {A = ℕ} 0 1 = cc in omega arith)
 target_onward lines l t marks (b ∷ bs) x h e = go (same b.marks marks) e (target_onward lines l t marks bs x h.1)
   where

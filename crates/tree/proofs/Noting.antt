@@ -1,6 +1,6 @@
 -- What is read at a node, and the certificate that notes it.
-use Rattle.std.proofs.Common.{◌≡◌, ℕ, zero, suc, ◌+◌, ◌<◌, ◌≤◌, Bool, true, false, cond, List, is_some, Some, None, Option, sym, refl, ap, ◌∙◌, arith}
-use Rattle.script.specs.Model.{Action, permute, shuffle, turn, committed, opened, none}
+use Rattle.std.proofs.Common.{◌≡◌, ℕ, Bool, true, false, cond, List, is_some, Some, None, Option, sym, refl, ap, ◌∙◌}
+use Rattle.script.specs.Model.{Action}
 use Rattle.protocol.specs.Machine.{Protocol, action_at, is_result}
 use Rattle.protocol.specs.States.{Row, first_wrong, wrongness}
 use Rattle.protocol.specs.Tree.{Certificate}

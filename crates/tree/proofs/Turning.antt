@@ -1,7 +1,7 @@
 -- The children of a turn one after the other, and the rows that a node's child has.
 use Rattle.std.proofs.Common.{◌≡◌, ℕ, suc, ◌+◌, ◌<◌, ◌≤◌, List, [], ◌∷◌, ◌++◌, length, take, Some, None, Ok, Err, Option, Result, sym, ap, ◌∙◌, subst, arith}
 use Rattle.std.proofs.lemmas.List.{take_at}
-use Rattle.std.specs.List.{AllByRecursion as All}
+use Rattle.std.specs.List.{AllByRecursion}
 use Rattle.script.specs.Model.{Action, Branch, turn, LawfulAction, LawfulBranch}
 use Rattle.script.specs.Faults.{Fault}
 use Rattle.protocol.specs.Machine.{Protocol, Trace, action_at, target}
@@ -25,8 +25,8 @@ use Rattle.tree.proofs.Walking.{turn_on, turn_refused, turn_over, no_branch}
 pub record TurnFacts (s : CheckedScript) (line : ℕ) (places : List ℕ) (branches : List Branch) : Type 0 where
   pub few_cards : (script s).cards ≤ 12
   pub few : length places ≤ 12
-  pub inside : All (λ p. (1 ≤ p) × (p ≤ (script s).cards)) places
-  pub onward : All (LawfulBranch (script s).lines line (length places)) branches
+  pub inside : AllByRecursion (λ p. (1 ≤ p) × (p ≤ (script s).cards)) places
+  pub onward : AllByRecursion (LawfulBranch (script s).lines line (length places)) branches
 
 pub turn_facts : (s : CheckedScript) (line : ℕ) (rows : List Row) → Arrived s line rows → (places : List ℕ) (branches : List Branch) → turn places branches ≡ (script s).action line → TurnFacts s line places branches
 turn_facts s line rows a places branches e =

@@ -1,6 +1,6 @@
 -- The walk over the nodes of a checked script's tree, with a deck and a bank of shuffles.
 use Rattle.std.specs.Prelude.{◌≡◌, ℕ, suc, ◌+◌, ◌<◌, ◌≤◌, Bool, cond, ◌&&◌, List, [], ◌∷◌, length, take, Some, None, Ok, Err, Option, Result, MatchOption, ◌==◌, slice_index}
-use Rattle.std.specs.List.{AllByRecursion as All}
+use Rattle.std.specs.List.{AllByRecursion}
 use Rattle.cards.specs.Decks.{DeckMeaning}
 use Rattle.cards.specs.Shuffles.{ShuffleMeaning}
 use Rattle.script.specs.Model.{LawfulScript}
@@ -90,7 +90,7 @@ pub record Arrived (s : CheckedScript) (line : ℕ) (rows : List Row) : Type 0 w
 pub record Reached (s : CheckedScript) (line : ℕ) (places : List ℕ) (rows : List Row) : Type 0 where
   pub standing : Standing s line
   pub few : length places ≤ 12
-  pub inside : All (λ p. (1 ≤ p) × (p ≤ (script s).cards)) places
+  pub inside : AllByRecursion (λ p. (1 ≤ p) × (p ≤ (script s).cards)) places
   pub arrives : (some : List Row) → ((b : ℕ) → total_of b some ≤ total_of b rows) → Arrived s line some
 
 -- A state for this line stands in the first rows of the room, as many as are answered; none where it has no room.

@@ -6,10 +6,10 @@ ghost use Rattle.cards.specs.Shuffles.{ShuffleMeaning};
 ghost use Rattle.protocol.specs.Machine.{is_result};
 ghost use Rattle.protocol.specs.States.{wrongness};
 ghost use Rattle.protocol.specs.Tree.{first_from, noted_number};
-ghost use Rattle.rows.specs.Nodes.{action_of, output_of as output-if};
+ghost use Rattle.rows.specs.Nodes.{action_of, output_of as output_if};
 ghost use Rattle.rows.specs.Views.{rows_view};
 ghost use Rattle.sheet.specs.Scripts.{output_of};
-ghost use Rattle.sheet.specs.Sheets.{script as script-in};
+ghost use Rattle.sheet.specs.Sheets.{script as script_in};
 ghost use Rattle.tree.specs.Certificates.{class_list};
 ghost use Rattle.tree.specs.Walks.{playing, together, Standing, Divided, notes};
 
@@ -25,7 +25,7 @@ use sheet::action::Action;
 use sheet::states::CheckedScript;
 
 fn is_open(output: Output) -> bool
-    ensures { output-if result ≡ output_of output }
+    ensures { output_if result ≡ output_of output }
 {
     match output {
         Output::Committed => false,
@@ -83,7 +83,7 @@ fn divide(classes: &Classes, sums: &[u64; 8]) -> Classes
 // What the line gives where it is a result.
 fn outcome_at(script: &CheckedScript, line: u8) -> Option<Outcome>
     requires { Standing script.now line }
-    ensures { MatchOption result (is_result ((script-in script.now).action line) ≡ false) (λ o. action_of o ≡ (script-in script.now).action line) }
+    ensures { MatchOption result (is_result ((script_in script.now).action line) ≡ false) (λ o. action_of o ≡ (script_in script.now).action line) }
 {
     match script.action(line) {
         Action::Committed { left, right } => Some(Outcome::Committed {

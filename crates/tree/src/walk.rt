@@ -9,7 +9,7 @@ ghost use Rattle.rows.specs.Turns.{child_of};
 ghost use Rattle.rows.specs.Views.{rows_view, zero_row};
 ghost use Rattle.script.specs.Model.{permute, shuffle, turn};
 ghost use Rattle.sheet.specs.Scripts.{branches_of};
-ghost use Rattle.sheet.specs.Sheets.{script as script-in};
+ghost use Rattle.sheet.specs.Sheets.{script as script_in};
 ghost use Rattle.tree.specs.Walks.{playing, Arrived, Entered, Held, Walked, faulted, Reached, Grown, Made, Below};
 
 use crate::fault::TreeFault;
@@ -69,7 +69,7 @@ fn below_marks<V: Visitor, D: Deck, B: Bank>(
 ) -> Result<u16, TreeFault>
     requires reached { Reached play.now.script.now line places.now (rows_view state.now) }
     requires long { (shown + length places.now) + 12 * (64 - line) ≤ length trail.old }
-    ensures walked { Made V.Visitor.visits (playing play.now.script.now (D.Deck.means play.now.deck.now) (B.Bank.at play.now.bank.now)) line (child_of (script-in play.now.script.now).cards places.now (take (length places.now) marks) (rows_view state.now)).rows (length rest.old) (take shown trail.old ++ take (length places.now) marks) nodes visitor.old visitor.new result }
+    ensures walked { Made V.Visitor.visits (playing play.now.script.now (D.Deck.means play.now.deck.now) (B.Bank.at play.now.bank.now)) line (child_of (script_in play.now.script.now).cards places.now (take (length places.now) marks) (rows_view state.now)).rows (length rest.old) (take shown trail.old ++ take (length places.now) marks) nodes visitor.old visitor.new result }
     ensures kept { take shown trail.new ≡ take shown trail.old }
 {
     let cards = play.script.head().cards;
@@ -94,7 +94,7 @@ fn below_permute<V: Visitor, D: Deck, B: Bank>(
 ) -> Result<u16, TreeFault>
     requires arrived { Arrived play.now.script.now line (rows_view state.now) }
     requires long { shown + 12 * (64 - line) ≤ length trail.old }
-    requires action { permute (map pred places.now) next ≡ (script-in play.now.script.now).action line }
+    requires action { permute (map pred places.now) next ≡ (script_in play.now.script.now).action line }
     ensures walked { Below V.Visitor.visits (playing play.now.script.now (D.Deck.means play.now.deck.now) (B.Bank.at play.now.bank.now)) line (rows_view state.now) (length rest.old) (take shown trail.old) nodes visitor.old visitor.new result }
     ensures kept { take shown trail.new ≡ take shown trail.old }
 {
@@ -120,7 +120,7 @@ fn below_shuffle<V: Visitor, D: Deck, B: Bank>(
 ) -> Result<u16, TreeFault>
     requires arrived { Arrived play.now.script.now line (rows_view state.now) }
     requires long { shown + 12 * (64 - line) ≤ length trail.old }
-    requires action { shuffle total next ≡ (script-in play.now.script.now).action line }
+    requires action { shuffle total next ≡ (script_in play.now.script.now).action line }
     ensures walked { Below V.Visitor.visits (playing play.now.script.now (D.Deck.means play.now.deck.now) (B.Bank.at play.now.bank.now)) line (rows_view state.now) (length rest.old) (take shown trail.old) nodes visitor.old visitor.new result }
     ensures kept { take shown trail.new ≡ take shown trail.old }
 {
@@ -145,7 +145,7 @@ fn below_turn<V: Visitor, D: Deck, B: Bank>(
 ) -> Result<u16, TreeFault>
     requires arrived { Arrived play.now.script.now line (rows_view state.now) }
     requires long { shown + 12 * (64 - line) ≤ length trail.old }
-    requires action { turn places.now (branches_of (length places.now) branches.now) ≡ (script-in play.now.script.now).action line }
+    requires action { turn places.now (branches_of (length places.now) branches.now) ≡ (script_in play.now.script.now).action line }
     requires some { 1 ≤ nodes }
     ensures walked { Below V.Visitor.visits (playing play.now.script.now (D.Deck.means play.now.deck.now) (B.Bank.at play.now.bank.now)) line (rows_view state.now) (length rest.old) (take shown trail.old) nodes visitor.old visitor.new result }
     ensures kept { take shown trail.new ≡ take shown trail.old }

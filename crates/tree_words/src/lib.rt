@@ -1,4 +1,6 @@
 // A certificate and the refusals of certify, in plain words.
+#![tactic(auto)]
+
 use std::alloc::{AllocError, Global};
 use std::io;
 use tree::certificate::Certificate;

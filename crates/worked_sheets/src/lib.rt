@@ -1,4 +1,6 @@
 // Worked sheets: what check, the certificate and a table say of them, from their bytes, by the definitions alone.
+#![tactic(auto)]
+
 ghost use Rattle.std.specs.Prelude.{◌≡◌};
 ghost use Rattle.worked_sheets.specs.WorkedSheets.{WorkedSheets, nodes_of, trick};
 

@@ -1,7 +1,7 @@
 -- A list that keeps a rule at each index is accepted, and the rest is left.
-use Rattle.std.proofs.Common.{◌≡◌, ℕ, zero, suc, ◌+◌, ◌-◌, ◌*◌, ◌<◌, ◌≤◌, Bool, true, false, cond, ◌&&◌, List, [], ◌∷◌, ◌++◌, length, get_or, take, drop, Some, None, Option, sym, refl, ap, ◌∙◌, subst, add-zero, arith}
+use Rattle.std.proofs.Common.{◌≡◌, ℕ, zero, suc, ◌+◌, ◌<◌, Bool, true, List, [], ◌∷◌, ◌++◌, length, get_or, take, sym, ap, ◌∙◌, subst, add-zero, arith}
 use Rattle.std.proofs.lemmas.List.{append-nil, append_assoc}
-use Rattle.format.specs.Form.{Form, ends, byte, wrong, listed}
+use Rattle.format.specs.Form.{Form, wrong, listed}
 
 module _ (rule : List ℕ → ℕ → Bool) (next : List ℕ → Form) where
   pub listed_accepts : (n from : ℕ) (before xs rest : List ℕ) → length xs ≡ n

@@ -1,18 +1,18 @@
 -- The frame of a line from 2 on keeps its form exactly when it is the writing of a line that keeps its rules.
-use Rattle.std.proofs.Common.{◌≡◌, ℕ, zero, suc, ◌+◌, ◌-◌, ◌*◌, ◌<◌, ◌≤◌, Bool, true, false, cond, not, ◌&&◌, ◌||◌, eqb, leb, ◌⊎◌, List, [], ◌∷◌, ◌++◌, length, get_or, take, drop, Some, None, sym, refl, ap, ◌∙◌, subst, inl, inr, ⊎_elim, arith}
+use Rattle.std.proofs.Common.{◌≡◌, ℕ, suc, ◌+◌, ◌*◌, ◌≤◌, true, false, eqb, List, [], ◌∷◌, ◌++◌, length, get_or, take, drop, None, sym, refl, ap, ◌∙◌, subst, ⊎_elim, arith}
 use Rattle.std.proofs.lemmas.List.{append-nil}
 use Rattle.std.proofs.lemmas.Bool.{eqb-true, or_cases, false≢true}
 use Rattle.std.specs.List.{flat_map}
 use Rattle.cards.specs.Lists.{distinct}
 use Rattle.heads.specs.declared.head.Head.{Head}
-use Rattle.format.specs.Form.{Form, ends, byte, wrong, listed}
-use Rattle.format.specs.Kinds.{Kind, from_to, distinct_rule, entries_form, piled_form, cut_form, explicit_form, committed_form, open_form, kinds, known, form_after, form_at}
+use Rattle.format.specs.Form.{Form, ends, byte, wrong}
+use Rattle.format.specs.Kinds.{Kind, from_to, distinct_rule, entries_form, cut_form, committed_form, open_form, kinds, known, form_after, form_at}
 use Rattle.format.proofs.Inversion.{byte_fits, ends_fits}
 use Rattle.format.proofs.Kinding.{form_later}
 use Rattle.writing.specs.Writing.{Line, permute, cut, explicit, turn, committed, opened, line_bytes, entry_bytes, KeepsLine, LineLaw}
 use Rattle.writing.proofs.Accepting.{listed_accepts}
 use Rattle.writing.proofs.Listing.{in_range, from_range, distinct_each, each_distinct}
-use Rattle.writing.proofs.Lines.{Got, got, first_rest, permute_accepts, permute_reads, piled_accepts, piled_reads, entries_accepts, entries_reads}
+use Rattle.writing.proofs.Lines.{got, first_rest, permute_accepts, permute_reads, piled_accepts, piled_reads, entries_accepts, entries_reads}
 use Rattle.writing.proofs.Turns.{turn_accepts, turn_reads}
 
 -- results

@@ -1,20 +1,16 @@
 -- Each kind of line: written by its rules it is accepted, and accepted bytes are so written.
-use Rattle.std.proofs.Common.{◌≡◌, ℕ, zero, suc, ◌+◌, ◌-◌, ◌*◌, ◌<◌, ◌≤◌, Bool, true, false, cond, not, ◌&&◌, ◌||◌, eqb, ltb, leb, ◌⊎◌, List, [], ◌∷◌, ◌++◌, length, get_or, take, drop, Some, None, Option, sym, refl, ap, ◌∙◌, subst, inl, inr, ⊎_elim, add-zero, arith}
-use Rattle.std.proofs.lemmas.List.{append-nil, append_assoc, get_or-take, length-take-le, take_more, take_all, take-take, take-append-drop, length-drop}
-use Rattle.std.proofs.lemmas.Bool.{and_parts, and_from, cases_order, cases_lt, le-leb, lt-ltb, leb-true, eq-eqb, eqb-true, le-ltb, or_left, or_right, or_cases, both_ways, false≢true}
-use Rattle.std.specs.List.{flat_map, AllByRecursion as All}
-use Rattle.cards.specs.Lists.{member, distinct}
+use Rattle.std.proofs.Common.{◌≡◌, ℕ, zero, suc, ◌+◌, ◌-◌, ◌*◌, ◌<◌, ◌≤◌, Bool, true, ◌&&◌, eqb, leb, List, [], ◌∷◌, ◌++◌, length, get_or, take, drop, None, sym, refl, ap, ◌∙◌, subst, arith}
+use Rattle.std.proofs.lemmas.List.{append-nil, get_or-take, length-take-le, take-take, take-append-drop}
+use Rattle.std.proofs.lemmas.Bool.{and_parts, and_from, le-leb, leb-true, eq-eqb, eqb-true}
+use Rattle.std.specs.List.{flat_map, AllByRecursion}
+use Rattle.cards.specs.Lists.{distinct}
 use Rattle.cards.specs.Shuffles.{Entry, permutes}
-use Rattle.script.specs.Model.{Branch}
-use Rattle.heads.specs.declared.head.Head.{Head}
-use Rattle.heads.specs.declared.head.DeckKind.{DeckKind}
 use Rattle.format.specs.Form.{Form, ends, byte, wrong, listed}
-use Rattle.heads.specs.Heads.{lowest_mark, highest_mark}
-use Rattle.format.specs.Kinds.{from_to, distinct_rule, ascending_rule, mark_rule, precedes, permute_form, piled_form, cut_form, entry_form, entries_form, explicit_form, branch_form, branches_form, turn_form, committed_form, open_form}
-use Rattle.format.proofs.Inversion.{byte_fits, ends_fits, Lists, listed_fits}
-use Rattle.writing.specs.Writing.{Line, permute, cut, explicit, turn, committed, opened, entry_bytes, branch_bytes, KeepsEntry, KeepsPiles, KeepsBranch, in_order, KeepsTurn}
+use Rattle.format.specs.Kinds.{from_to, distinct_rule, permute_form, piled_form, entries_form}
+use Rattle.format.proofs.Inversion.{byte_fits, ends_fits, listed_fits}
+use Rattle.writing.specs.Writing.{entry_bytes, KeepsEntry, KeepsPiles}
 use Rattle.writing.proofs.Accepting.{listed_accepts}
-use Rattle.writing.proofs.Listing.{in_range, from_range, distinct_each, each_distinct, ascending_each, each_inside, each_positive, each_ascends}
+use Rattle.writing.proofs.Listing.{in_range, from_range, distinct_each, each_distinct}
 
 -- a list that is all that is taken of the bytes
 same_each : (rule : List ℕ → ℕ → Bool) (n : ℕ) (bytes : List ℕ) → n ≤ length bytes
@@ -111,7 +107,7 @@ piled_reads n next (m ∷ q ∷ t) e =
 permuted : (q : ℕ) (is : List ℕ) → permutes q is ≡ true → (length is ≡ q) × (distinct 0 (q - 1) is ≡ true)
 permuted q is e = let p = and_parts (eqb (length is) q) (distinct 0 (q - 1) is) e in (eqb-true (length is) q p.0, p.1)
 
-pub entries_accepts : (q from : ℕ) (es : List Entry) → All (KeepsEntry q) es
+pub entries_accepts : (q from : ℕ) (es : List Entry) → AllByRecursion (KeepsEntry q) es
     → wrong from (entries_form (length es) q) (flat_map entry_bytes es) ≡ None
 entries_accepts q from [] k = refl
 entries_accepts q from (e ∷ es) k =
@@ -123,7 +119,7 @@ entries_accepts q from (e ∷ es) k =
 pub record EntriesGot (count q : ℕ) (bytes : List ℕ) (es : List Entry) : Type 0 where
   pub long : length es ≡ count
   pub whole : flat_map entry_bytes es ≡ bytes
-  pub keep : All (KeepsEntry q) es
+  pub keep : AllByRecursion (KeepsEntry q) es
 
 pub entries_reads : (count q from : ℕ) (bytes : List ℕ) → wrong from (entries_form count q) bytes ≡ None
     → (es : List Entry) × EntriesGot count q bytes es

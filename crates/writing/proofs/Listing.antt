@@ -1,9 +1,9 @@
 -- Rules of lists, byte by byte and as a whole.
-use Rattle.std.proofs.Common.{◌≡◌, ℕ, zero, suc, ◌+◌, ◌-◌, ◌*◌, ◌<◌, ◌≤◌, Bool, true, false, cond, not, ◌&&◌, ◌||◌, eqb, ltb, leb, ◌⊎◌, List, [], ◌∷◌, ◌++◌, length, get_or, take, drop, sym, refl, ap, ◌∙◌, subst, inl, inr, ⊎_elim, add-one, arith}
-use Rattle.std.proofs.lemmas.List.{get_or-take, length-take-le, take_more, take_all}
-use Rattle.std.proofs.lemmas.Bool.{and_parts, and_from, cases_Bool, cases_order, le-leb, lt-ltb, leb-true, ltb-true, eq-eqb, not-true, not_from_false, or_parts, or_from, or_left, or_right, or_cases, eqb-true, ne_eqb, eqb-false, both_ways}
+use Rattle.std.proofs.Common.{◌≡◌, ℕ, zero, suc, ◌-◌, ◌<◌, ◌≤◌, true, false, eqb, leb, List, [], ◌∷◌, length, get_or, take, sym, refl, ap, ◌∙◌, subst, ⊎_elim, arith}
+use Rattle.std.proofs.lemmas.List.{get_or-take, length-take-le}
+use Rattle.std.proofs.lemmas.Bool.{and_parts, and_from, cases_Bool, le-leb, lt-ltb, leb-true, ltb-true, eq-eqb, not-true, not_from_false, or_left, or_right, both_ways}
 use Rattle.cards.specs.Lists.{member, distinct}
-use Rattle.shuffles.specs.Positions.{position_below, distinct_range, distinct_apart, distinct_parts}
+use Rattle.shuffles.specs.Positions.{position_below, distinct_range, distinct_apart}
 use Rattle.cards.specs.Lists.{position}
 use Rattle.format.specs.Kinds.{from_to, distinct_rule, ascending_rule}
 

@@ -1,18 +1,18 @@
 -- Turns and their branches: written by their rules they are accepted, and accepted bytes are so written.
-use Rattle.std.proofs.Common.{◌≡◌, ℕ, zero, suc, ◌+◌, ◌-◌, ◌*◌, ◌<◌, ◌≤◌, Bool, true, false, cond, not, ◌&&◌, ◌||◌, eqb, ltb, leb, ◌⊎◌, List, [], ◌∷◌, ◌++◌, length, get_or, take, drop, Some, None, sym, refl, ap, ◌∙◌, subst, inl, inr, ⊎_elim, add-zero, add-one, arith}
-use Rattle.std.proofs.lemmas.List.{append-nil, append_assoc, length-take-le, take_more, take_all}
+use Rattle.std.proofs.Common.{◌≡◌, ℕ, zero, suc, ◌+◌, ◌-◌, ◌<◌, ◌≤◌, true, false, ltb, leb, List, [], ◌∷◌, ◌++◌, length, get_or, take, drop, None, sym, refl, ap, ◌∙◌, subst, ⊎_elim, arith}
+use Rattle.std.proofs.lemmas.List.{append_assoc, length-take-le, take_more, take_all}
 use Rattle.std.proofs.lemmas.Bool.{and_parts, and_from, cases_lt, le-leb, lt-ltb, leb-true, le-ltb, or_left, or_right, or_cases, both_ways}
-use Rattle.std.specs.List.{flat_map, AllByRecursion as All}
+use Rattle.std.specs.List.{flat_map, AllByRecursion}
 use Rattle.script.specs.Model.{Branch}
 use Rattle.heads.specs.declared.head.DeckKind.{DeckKind}
-use Rattle.format.specs.Form.{Form, ends, byte, wrong, listed}
+use Rattle.format.specs.Form.{Form, byte, wrong, listed}
 use Rattle.heads.specs.Heads.{lowest_mark, highest_mark}
-use Rattle.format.specs.Kinds.{from_to, ascending_rule, mark_rule, precedes, branch_form, branches_form, turn_form}
+use Rattle.format.specs.Kinds.{from_to, ascending_rule, mark_rule, precedes, branches_form, turn_form}
 use Rattle.format.proofs.Inversion.{byte_fits, ends_fits}
 use Rattle.writing.specs.Writing.{branch_bytes, KeepsBranch, in_order, KeepsTurn}
 use Rattle.writing.proofs.Accepting.{listed_accepts}
 use Rattle.writing.proofs.Listing.{in_range, from_range, ascending_each, each_inside, each_positive, each_ascends}
-use Rattle.writing.proofs.Lines.{Got, got, first_rest}
+use Rattle.writing.proofs.Lines.{got, first_rest}
 
 module _ (deck : DeckKind) (t lines line : ℕ) where
   -- the marks of a branch, at each index
@@ -45,7 +45,7 @@ module _ (deck : DeckKind) (t lines line : ℕ) where
   target_in : (b : ℕ) → line < b → b < lines → from_to (suc line) (lines - 1) b ≡ true
   target_in b l h = from_range (suc line) (lines - 1) b l (omega arith)
 
-  pub branches_accepts : (from : ℕ) (previous : List ℕ) (bs : List Branch) → All (KeepsBranch deck t lines line) bs → in_order previous bs
+  pub branches_accepts : (from : ℕ) (previous : List ℕ) (bs : List Branch) → AllByRecursion (KeepsBranch deck t lines line) bs → in_order previous bs
       → wrong from (branches_form deck t (suc line) (lines - 1) (length bs) previous) (flat_map branch_bytes bs) ≡ None
   branches_accepts from previous [] k o = refl
   branches_accepts from previous (b ∷ bs) k o =
@@ -61,7 +61,7 @@ module _ (deck : DeckKind) (t lines line : ℕ) where
   pub record BranchesGot (count : ℕ) (previous bytes : List ℕ) (bs : List Branch) : Type 0 where
     pub long : length bs ≡ count
     pub whole : flat_map branch_bytes bs ≡ bytes
-    pub keep : All (KeepsBranch deck t lines line) bs
+    pub keep : AllByRecursion (KeepsBranch deck t lines line) bs
     pub order : in_order previous bs
 
   pub branches_reads : 1 ≤ t → 1 ≤ lines → (count from : ℕ) (previous bytes : List ℕ)
@@ -142,7 +142,7 @@ module _ (deck : DeckKind) (n lines line : ℕ) where
               inside = each_inside n t ps l g.each;
               ascend = each_ascends n t ps l g.each;
               branched = let c = r.1.long in rw c (leb-true 1 count b.1.0);
-              each = subst (λ x. All (KeepsBranch deck x lines line) r.0) (sym l) r.1.keep;
+              each = subst (λ x. AllByRecursion (KeepsBranch deck x lines line) r.0) (sym l) r.1.keep;
               ordered = r.1.order;
             };
           },

@@ -1,7 +1,6 @@
 -- What a designer writes at a line, how its bytes are written, and the rules that it keeps.
-use Rattle.std.specs.Prelude.{◌≡◌, ℕ, suc, ◌+◌, ◌-◌, ◌*◌, ◌^◌, ◌<◌, ◌≤◌, Bool, true, false, List, [], ◌∷◌, ◌++◌, length, None, slice_index}
-use Rattle.std.specs.List.{flat_map, AllByRecursion as All}
-use Rattle.cards.specs.Decks.{DeckMeaning}
+use Rattle.std.specs.Prelude.{◌≡◌, ℕ, suc, ◌+◌, ◌*◌, ◌^◌, ◌<◌, ◌≤◌, true, List, [], ◌∷◌, ◌++◌, length, None, slice_index}
+use Rattle.std.specs.List.{flat_map, AllByRecursion}
 use Rattle.cards.specs.Lists.{member, distinct}
 use Rattle.cards.specs.Shuffles.{Entry, permutes}
 use Rattle.script.specs.Model.{Branch}
@@ -93,7 +92,7 @@ pub record KeepsTurn (deck : DeckKind) (n lines line : ℕ) (places : List ℕ) 
   pub inside : (i : ℕ) → i < length places → slice_index places i ≤ n
   pub ascend : (i : ℕ) → suc i < length places → slice_index places i < slice_index places (suc i)
   pub branched : 1 ≤ length branches
-  pub each : All (KeepsBranch deck (length places) lines line) branches
+  pub each : AllByRecursion (KeepsBranch deck (length places) lines line) branches
   pub ordered : in_order [] branches
 
 abbrev pub KeepsLine : Head → ℕ → ℕ → Line → Type 0
@@ -101,7 +100,7 @@ KeepsLine h lines line (permute places) = (length places ≡ h.cards) × (distin
 KeepsLine h lines line (cut piles slots places) = KeepsPiles h.cards piles slots places
 KeepsLine h lines line (explicit piles slots places entries) =
     KeepsPiles h.cards piles slots places
-    × ((1 ≤ length entries) × ((length entries ≤ 8) × All (KeepsEntry slots) entries))
+    × ((1 ≤ length entries) × ((length entries ≤ 8) × AllByRecursion (KeepsEntry slots) entries))
 KeepsLine h lines line (turn places branches) = KeepsTurn h.deck h.cards lines line places branches
 KeepsLine h lines line (committed left right) = distinct 1 h.cards (left ∷ right ∷ []) ≡ true
 KeepsLine h lines line (opened value) = value ≤ 1

@@ -1,4 +1,4 @@
-use Rattle.std.proofs.Common.{◌≡◌, ℕ, ◌≤◌, List, take, ap, arith}
+use Rattle.std.proofs.Common.{◌≡◌, List, take, ap, arith}
 use Rattle.std.proofs.lemmas.List.{take_all}
 use Rattle.protocol.specs.States.{total_of}
 use Rattle.rows.specs.declared.row.Row as code

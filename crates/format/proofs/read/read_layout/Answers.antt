@@ -1,34 +1,33 @@
-use Rattle.std.proofs.Common.{◌≡◌, ℕ, ◌<◌, ◌≤◌, true, false, [], length, get_or, sym, refl, ap, ◌∙◌, inl, inr, arith, rules}
+use Rattle.std.proofs.Common.{◌≡◌, ◌≤◌, length, get_or, rules}
 use Rattle.std.proofs.lemmas.List.{take_rest}
 use Rattle.std.proofs.lemmas.Result.{err_from_is_err_and}
-use Rattle.format.specs.Form.{listed, ends}
-use Rattle.format.proofs.Joining.{come_none, come_more, come_broken, come_faulty, come_ends}
-use Rattle.format.proofs.Frames.{layout_come, layout_codes, layout_kind, taken_all}
+use Rattle.format.proofs.Joining.{come_faulty, come_ends}
+use Rattle.format.proofs.Frames.{layout_come, layout_codes, taken_all}
 use Rattle.format.proofs.read.read_layout.Goals as goal
 
-pub returns-in-err-codes : goal.returns-in-err-codes
-returns-in-err-codes c =
-    let p = err_from_is_err_and c.from-residual.result c.from-residual.ensures.1 in
+pub returns-in_err-codes-in-2 : goal.returns-in_err-codes-in-2
+returns-in_err-codes-in-2 c =
+    let p = err_from_is_err_and c.from_residual.result c.from_residual.ensures.1 in
     let l : 1 ≤ length c.args.bytes.now = search rules in
     let k : get_or c.args.bytes.now 0 0 ≡ 2 = search rules in
     rw (p.1, p.2)
-    (layout_codes c.args.head.now c.args.bytes.now _ l k (rw take_rest at c.in-err-codes.ensures))
+    (layout_codes c.args.head.now c.args.bytes.now _ l k (rw take_rest at c.in_err-codes-in-2.ensures))
 
-pub returns-in-err-at-end : goal.returns-in-err-at-end
-returns-in-err-at-end c =
-    let p = err_from_is_err_and c.from-residual-in-err-at-end.result c.from-residual-in-err-at-end.ensures.1 in
+pub returns-in_err-at_end-in-2 : goal.returns-in_err-at_end-in-2
+returns-in_err-at_end-in-2 c =
+    let p = err_from_is_err_and c.from_residual-in_err-at_end-in-2.result c.from_residual-in_err-at_end-in-2.ensures.1 in
     let l : 1 ≤ length c.args.bytes.now = search rules in
     let k : get_or c.args.bytes.now 0 0 ≡ 2 = search rules in
     rw (p.1, p.2)
-    (come_faulty _ _ _ _ _ _ (layout_come c.args.head.now c.args.bytes.now _ _ l k (rw take_rest at c.in-ok-codes.ensures)) _ _
-    c.in-err-at-end.ensures)
+    (come_faulty _ _ _ _ _ _ (layout_come c.args.head.now c.args.bytes.now _ _ l k (rw take_rest at c.in_ok-codes-in-2.ensures)) _ _
+    c.in_err-at_end-in-2.ensures)
 
-pub returns-in-ok-at-end : goal.returns-in-ok-at-end
-returns-in-ok-at-end c =
+pub returns-in_ok-at_end-in-2 : goal.returns-in_ok-at_end-in-2
+returns-in_ok-at_end-in-2 c =
     let l : 1 ≤ length c.args.bytes.now = search rules in
     let k : get_or c.args.bytes.now 0 0 ≡ 2 = search rules in
-    let t = rw take_rest at c.in-ok-codes.ensures in
-    let e = c.in-ok-at-end.ensures in (
+    let t = rw take_rest at c.in_ok-codes-in-2.ensures in
+    let e = c.in_ok-at_end-in-2.ensures in (
       come_ends _ _ _ _ _ _ (layout_come c.args.head.now c.args.bytes.now _ _ l k t) e.1,
       taken_all c.args.head.now.cards _ _ _ t.front t.back e.0,
     )

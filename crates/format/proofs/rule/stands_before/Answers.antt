@@ -1,6 +1,6 @@
-use Rattle.std.proofs.Common.{sym, ◌∙◌, arith, rules}
+use Rattle.std.proofs.Common.{sym, ◌∙◌, arith}
 use Rattle.std.proofs.lemmas.Bool.{le-leb}
-use Rattle.format.proofs.Orders.{level_short, level_apart, level_more, level_all, level_all_short, level_last}
+use Rattle.format.proofs.Orders.{level_short, level_apart, level_more, level_all_short, level_last}
 use Rattle.format.proofs.rule.stands_before.Goals as goal
 
 pub returns-then-i-previous : goal.returns-then-i-previous

@@ -1,4 +1,4 @@
-use Rattle.std.proofs.Common.{sym, arith, rules}
+use Rattle.std.proofs.Common.{sym, arith}
 use native.Mathlib.Nat.{sub-zero}
 use Rattle.format.proofs.Listing.{reached_none, reached_more, broken_rule, broken_short, taken}
 use Rattle.format.proofs.rule.take_listed.Goals as goal
@@ -26,4 +26,4 @@ loop-i-preserved g c =
 
 pub returns : goal.returns
 returns g c =
-    taken _ _ _ _ c.loop-i.i (omega arith) _ _ c.split-at.ensures.front c.split-at.ensures.back c.loop-i.invariant
+    taken _ _ _ _ c.loop-i.i (omega arith) _ _ c.split_at.ensures.front c.split_at.ensures.back c.loop-i.invariant

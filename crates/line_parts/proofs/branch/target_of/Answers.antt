@@ -9,7 +9,7 @@ returns-then-same c =
 pub loop-rest-preserved : goal.loop-rest-preserved
 loop-rest-preserved c = (
   c.loop-rest.invariant.0
-      ∙ branch_later c.args.turned c.loop-rest.rest.now c.args.marks.now (omega arith) c.same.result c.same.ensures c.if-same.false _ c.split-at.ensures.back,
+      ∙ branch_later c.args.turned c.loop-rest.rest.now c.args.marks.now (omega arith) c.same.result c.same.ensures c.if-same.false _ c.split_at.ensures.back,
   omega arith,
 )
 

@@ -1,9 +1,9 @@
-use Rattle.std.proofs.Common.{◌≡◌, ℕ, ◌+◌, ◌-◌, ◌<◌, ◌≤◌, List, ◌++◌, length, get_or, take, drop, set, sym, refl, ap, ◌∙◌, subst, arith, rules}
+use Rattle.std.proofs.Common.{◌≡◌, ℕ, ◌+◌, ◌-◌, ◌<◌, ◌≤◌, List, length, get_or, take, drop, set, sym, refl, ap, subst, arith}
 use native.Mathlib.Nat.{sub-zero}
 use borrow.Rule.Slice.PartMut.{put_mid}
 use Rattle.std.proofs.lemmas.List.{length-take-le, get_or-take}
 use Rattle.std.proofs.lemmas.Bool.{false≢true}
-use Rattle.protocol.specs.States.{total_of, Ascending}
+use Rattle.protocol.specs.States.{Ascending}
 use Rattle.rows.specs.declared.row.Row as code
 use Rattle.rows.specs.Views.{sequence_at, rows_view}
 use Rattle.rows.proofs.Order.{rising_le}
@@ -68,6 +68,6 @@ returns c =
     record {
       put = written_new rows c.args.len i c.args.row.now (take (c.args.len - 0) rows) (run_is rows c.args.len) c.position-at.ensures.below c.requires.within within above
           (take (c.args.len + 1 - i) (drop i rows)) _ c.if-len-rows.false refl
-          (ap (λ (xs : List code.Row). set (put_mid i (c.args.len + 1 - i) rows xs) i c.args.row.now) c.rotate-right.ensures.after);
+          (ap (λ (xs : List code.Row). set (put_mid i (c.args.len + 1 - i) rows xs) i c.args.row.now) c.rotate_right.ensures.after);
       kept = λ h. absurd (false≢true (sym h));
     }

@@ -1,4 +1,4 @@
-use Rattle.std.proofs.Common.{◌≡◌, ◌∙◌, arith}
+use Rattle.std.proofs.Common.{◌∙◌, arith}
 use Rattle.rows.proofs.Dictionary.{same_no, same_on, same_end, same_longs}
 use Rattle.rows.proofs.marks.same.Goals as goal
 

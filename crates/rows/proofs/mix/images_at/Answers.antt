@@ -1,5 +1,5 @@
-use Rattle.std.proofs.Common.{◌≡◌, sym, ◌∙◌}
-use Rattle.rows.proofs.Fitted.{images_apart, images_fit}
+use Rattle.std.proofs.Common.{sym, ◌∙◌}
+use Rattle.rows.proofs.Fitted.{images_apart}
 use Rattle.rows.proofs.mix.images_at.Goals as goal
 
 pub returns-else-fits : goal.returns-else-fits

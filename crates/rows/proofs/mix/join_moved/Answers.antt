@@ -1,9 +1,9 @@
-use Rattle.std.proofs.Common.{◌≡◌, ℕ, ◌+◌, ◌<◌, ◌≤◌, List, [], length, get_or, take, drop, Some, sym, refl, ap, ◌∙◌, subst, arith, rules}
+use Rattle.std.proofs.Common.{◌≡◌, ℕ, ◌+◌, List, [], length, get_or, take, drop, sym, ap, ◌∙◌, subst, arith}
 use Rattle.std.proofs.lemmas.List.{drop_all}
 use Rattle.protocol.specs.States.{Row, total_of, joined_after}
 use Rattle.rows.specs.declared.row.Row as code
 use Rattle.rows.specs.Views.{rows_view}
-use Rattle.rows.proofs.Standing.{Standing, standing_join, written_standing, next_weight, next_state, next_total, next_longer}
+use Rattle.rows.proofs.Standing.{standing_join, written_standing, next_weight, next_state, next_total, next_longer}
 use Rattle.rows.proofs.mix.join_moved.Goals as goal
 
 pub join-requires : goal.join-requires
@@ -19,26 +19,26 @@ join-requires c =
           omega arith;
     }
 
-pub returns-in-err-len : goal.returns-in-err-len
-returns-in-err-len c =
+pub returns-in_err-len : goal.returns-in_err-len
+returns-in_err-len c =
     record {
       put = λ m d h.
           let s = c.loop-row.invariant.0 in
           let k = next_longer c.args.rows.now c.loop-row.row-index c.loop-row-test.true c.moved-row.result (rows_view (take c.loop-row.len c.loop-row.room)) c.args.cards m d (c.moved-row.ensures.value m d h) in
           let e = ap length (c.loop-row.invariant.2 m d h) in
-          let f = c.in-err-len.ensures.put in
+          let f = c.in_err-len.ensures.put in
           let g = s.long in
-          rw c.from-residual.ensures (omega arith);
-      totals = λ end b e l. absurd (let z : ◌≡◌ {A = ℕ} 0 1 = cc c.from-residual.ensures in omega arith);
+          rw c.from_residual.ensures (omega arith);
+      totals = λ end b e l. absurd (let z : ◌≡◌ {A = ℕ} 0 1 = cc c.from_residual.ensures in omega arith);
     }
 
 pub loop-row-preserved : goal.loop-row-preserved
 loop-row-preserved c =
-    let w = c.in-ok-len.ensures.put in
+    let w = c.in_ok-len.ensures.put in
     let rows : List code.Row = c.args.rows.now in
     let S : List Row = rows_view (take c.loop-row.len c.loop-row.room) in
-    let T : List Row = rows_view (take c.in-ok-len.len c.join.new.rows) in (
-      standing_join c.loop-row.len c.in-ok-len.len c.loop-row.room c.args.room.now c.join.new.rows _ c.loop-row.invariant.0 c.join.auto.rows w,
+    let T : List Row = rows_view (take c.in_ok-len.len c.join.new.rows) in (
+      standing_join c.loop-row.len c.in_ok-len.len c.loop-row.room c.args.room.now c.join.new.rows _ c.loop-row.invariant.0 c.join.auto.rows w,
       (λ b h.
           let a = c.loop-row.invariant.1 b h in
           let t = next_total rows c.loop-row.row-index c.loop-row-test.true c.moved-row.result S T w.here b h c.moved-row.ensures.weights in

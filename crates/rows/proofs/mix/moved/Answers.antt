@@ -1,9 +1,7 @@
-use Rattle.std.proofs.Common.{◌≡◌, ℕ, List, length, get_or, sym, refl, ap, ◌∙◌, arith}
+use Rattle.std.proofs.Common.{◌≡◌, ℕ, get_or, refl, ap, ◌∙◌, arith}
 use Rattle.cards.specs.Rows.{carried, packed, unpacked}
 use Rattle.cards.proofs.Moves.{carried_same}
-use Rattle.protocol.specs.Machine.{Mixing, moved}
 use Rattle.protocol.specs.States.{Row}
-use Rattle.rows.specs.Views.{Sends}
 use Rattle.rows.proofs.Unpacked.{unpacked_few}
 use Rattle.rows.proofs.mix.moved.Goals as goal
 

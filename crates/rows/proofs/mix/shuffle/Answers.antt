@@ -1,17 +1,15 @@
-use Rattle.std.proofs.Common.{◌≡◌, ℕ, suc, ◌+◌, ◌-◌, ◌*◌, ◌<◌, ◌≤◌, List, length, get_or, take, drop, Some, sym, refl, ap, ◌∙◌, subst, mul-le-mul_right, suc-mul, add-one, arith, rules}
-use Rattle.std.proofs.lemmas.Option.{MatchOption-at_some}
+use Rattle.std.proofs.Common.{◌≡◌, ℕ, suc, ◌*◌, ◌≤◌, List, take, ap, ◌∙◌, subst, mul-le-mul_right, suc-mul, arith}
 use Rattle.cards.specs.Shuffles.{ShuffleMeaning}
-use Rattle.protocol.specs.Machine.{Protocol, Mixing, shuffling}
-use Rattle.protocol.specs.States.{Row, total_of, joined_after, mixed_by}
-use Rattle.rows.specs.declared.row.Row as code
-use Rattle.rows.specs.Views.{rows_view, Written, Shuffles}
+use Rattle.protocol.specs.Machine.{Mixing, shuffling}
+use Rattle.protocol.specs.States.{Row, total_of, mixed_by}
+use Rattle.rows.specs.Views.{rows_view}
 use Rattle.rows.proofs.Fitted.{of_bank, sends_table, sends_bank}
 use Rattle.rows.proofs.Draws.{draw_state, draw_total, draw_longer, draw_stands}
 use Rattle.rows.proofs.Standing.{written_standing}
 use Rattle.rows.proofs.mix.shuffle.Goals as goal
 
-pub join-moved-requires : goal.join-moved-requires
-join-moved-requires g c =
+pub join_moved-requires : goal.join_moved-requires
+join_moved-requires g c =
     record {
       cards = c.requires.cards;
       within = c.loop-draw.invariant.0.within;
@@ -25,18 +23,18 @@ join-moved-requires g c =
           omega arith;
     }
 
-pub returns-in-err-len : goal.returns-in-err-len
-returns-in-err-len g c =
+pub returns-in_err-len : goal.returns-in_err-len
+returns-in_err-len g c =
     record {
       put = λ p next h.
           let mix : Mixing = shuffling p c.args.line c.args.total next in
           let m : ShuffleMeaning = g.B.Bank.at c.args.bank.now c.args.line in
           let S : List Row = rows_view (take c.loop-draw.len c.loop-draw.room) in
-          let none = c.in-err-len.ensures.put mix c.loop-draw.draw (sends_bank c.images-at-images.result c.args.cards c.args.line c.args.total m c.loop-draw.draw c.images-at-images.ensures p next h) in
+          let none = c.in_err-len.ensures.put mix c.loop-draw.draw (sends_bank c.images_at-images.result c.args.cards c.args.line c.args.total m c.loop-draw.draw c.images_at-images.ensures p next h) in
           let k = draw_longer c.args.cards mix (rows_view c.args.rows.now) c.loop-draw.draw S c.args.total c.loop-draw-test.true (c.loop-draw.invariant.2 p next h) in
           let long = c.loop-draw.invariant.0.long in
-          rw c.from-residual.ensures (omega arith);
-      totals = λ len b e l. absurd (let z : ◌≡◌ {A = ℕ} 0 1 = cc c.from-residual.ensures in omega arith);
+          rw c.from_residual.ensures (omega arith);
+      totals = λ len b e l. absurd (let z : ◌≡◌ {A = ℕ} 0 1 = cc c.from_residual.ensures in omega arith);
     }
 
 pub loop-draw-preserved : goal.loop-draw-preserved
@@ -46,13 +44,13 @@ loop-draw-preserved g c =
     let rows : List Row = rows_view c.args.rows.now in
     let d : ℕ = c.loop-draw.draw in
     let S : List Row = rows_view (take c.loop-draw.len c.loop-draw.room) in
-    let T : List Row = rows_view (take c.in-ok-len.len c.join-moved.new.room) in
-    let w = c.in-ok-len.ensures.put own d (sends_table c.images-at-images.result (own.sends d) c.images-at-images.ensures) in (
-      draw_stands c.args.cards own rows d c.loop-draw.len c.in-ok-len.len c.loop-draw.room c.args.room.now c.join-moved.new.room c.loop-draw.invariant.0 c.join-moved.auto.room w,
+    let T : List Row = rows_view (take c.in_ok-len.len c.join_moved.new.room) in
+    let w = c.in_ok-len.ensures.put own d (sends_table c.images_at-images.result (own.sends d) c.images_at-images.ensures) in (
+      draw_stands c.args.cards own rows d c.loop-draw.len c.in_ok-len.len c.loop-draw.room c.args.room.now c.join_moved.new.room c.loop-draw.invariant.0 c.join_moved.auto.room w,
       (λ b l. draw_total c.args.cards own rows d S b T l (c.loop-draw.invariant.1 b l) w.here),
       λ p next h.
           let mix : Mixing = shuffling p c.args.line c.args.total next in
-          let v = c.in-ok-len.ensures.put mix d (sends_bank c.images-at-images.result c.args.cards c.args.line c.args.total m d c.images-at-images.ensures p next h) in
+          let v = c.in_ok-len.ensures.put mix d (sends_bank c.images_at-images.result c.args.cards c.args.line c.args.total m d c.images_at-images.ensures p next h) in
           draw_state c.args.cards mix rows d S T (c.loop-draw.invariant.2 p next h) v.here,
     )
 

@@ -1,4 +1,4 @@
-use Rattle.std.proofs.Common.{◌≡◌, ℕ, ◌*◌, ◌<◌, ◌&&◌, eqb, take}
+use Rattle.std.proofs.Common.{◌≡◌, ℕ, ◌*◌, ◌<◌, take}
 use Rattle.protocol.specs.Machine.{Protocol, shuffling}
 use Rattle.protocol.specs.States.{total_of, mixed_by}
 use Rattle.rows.specs.Views.{rows_view, Shuffles}

@@ -1,4 +1,4 @@
-use Rattle.std.proofs.Common.{◌≡◌, ℕ, Bool, false, sym, ap, ◌∙◌, arith}
+use Rattle.std.proofs.Common.{◌≡◌, false, sym}
 use Rattle.rows.proofs.Below.{any_has, any_more}
 use Rattle.rows.proofs.Alike.{parted, parted_yes, parted_even, parted_free}
 use Rattle.rows.proofs.node.differs.Goals as goal

@@ -1,4 +1,4 @@
-use Rattle.std.proofs.Common.{◌≡◌, ℕ, ◌+◌, List, drop, sym, ap, ◌∙◌}
+use Rattle.std.proofs.Common.{List, sym, ap, ◌∙◌}
 use Rattle.std.proofs.lemmas.List.{drop_all}
 use Rattle.protocol.specs.States.{first_wrong}
 use Rattle.rows.specs.declared.row.Row as code
@@ -7,17 +7,17 @@ use Rattle.rows.specs.Nodes.{action_of}
 use Rattle.rows.proofs.Wrongs.{row_wrong, row_right, wrongness_is}
 use Rattle.rows.proofs.node.first_wrong.Goals as goal
 
-pub returns-then-is-some : goal.returns-then-is-some
-returns-then-is-some g c =
+pub returns-then-is_some : goal.returns-then-is_some
+returns-then-is_some g c =
     λ p l h cards deck action.
-    row_wrong p (action_of c.args.outcome) c.args.rows.now c.loop-row.row-index c.loop-row-test.true c.args.players c.args.cards (g.D.Deck.means c.args.deck.now) c.reading-reading.result c.wrong-input-found.result h.players_are cards deck c.reading-reading.ensures (c.wrong-input-found.ensures p h) (sym c.is-some.ensures ∙ c.if-is-some.true)
+    row_wrong p (action_of c.args.outcome) c.args.rows.now c.loop-row.row-index c.loop-row-test.true c.args.players c.args.cards (g.D.Deck.means c.args.deck.now) c.reading-reading.result c.wrong_input-found.result h.players_are cards deck c.reading-reading.ensures (c.wrong_input-found.ensures p h) (sym c.is_some.ensures ∙ c.if-is_some.true)
     ∙ c.loop-row.invariant p h cards deck
     ∙ wrongness_is p l c.args.outcome (rows_view c.args.rows.now) action
 
 pub loop-row-preserved : goal.loop-row-preserved
 loop-row-preserved g c =
     λ p h cards deck.
-    row_right p (action_of c.args.outcome) c.args.rows.now c.loop-row.row-index c.loop-row-test.true c.args.players c.args.cards (g.D.Deck.means c.args.deck.now) c.reading-reading.result c.wrong-input-found.result h.players_are cards deck c.reading-reading.ensures (c.wrong-input-found.ensures p h) (sym c.is-some.ensures ∙ c.if-is-some.false)
+    row_right p (action_of c.args.outcome) c.args.rows.now c.loop-row.row-index c.loop-row-test.true c.args.players c.args.cards (g.D.Deck.means c.args.deck.now) c.reading-reading.result c.wrong_input-found.result h.players_are cards deck c.reading-reading.ensures (c.wrong_input-found.ensures p h) (sym c.is_some.ensures ∙ c.if-is_some.false)
     ∙ c.loop-row.invariant p h cards deck
 
 pub returns : goal.returns

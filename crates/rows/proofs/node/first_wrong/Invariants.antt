@@ -1,4 +1,4 @@
-use Rattle.std.proofs.Common.{◌≡◌, ℕ, drop}
+use Rattle.std.proofs.Common.{◌≡◌, drop}
 use Rattle.protocol.specs.Machine.{Protocol}
 use Rattle.protocol.specs.States.{first_wrong}
 use Rattle.rows.specs.Views.{rows_view}

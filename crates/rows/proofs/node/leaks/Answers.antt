@@ -1,4 +1,4 @@
-use Rattle.std.proofs.Common.{◌≡◌, ℕ, ◌*◌, ◌%◌, ◌^◌, ◌<◌, ◌≤◌, Bool, true, false, sym, ◌∙◌, arith}
+use Rattle.std.proofs.Common.{◌*◌, ◌%◌, ◌^◌, sym, ◌∙◌, arith}
 use Rattle.protocol.specs.States.{any_below}
 use Rattle.rows.proofs.Below.{any_more}
 use Rattle.rows.proofs.Starts.{inputs_are, few_inputs}

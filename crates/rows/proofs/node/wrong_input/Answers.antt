@@ -1,4 +1,4 @@
-use Rattle.std.proofs.Common.{◌≡◌, ℕ, ◌-◌, ◌*◌, ◌%◌, ◌^◌, ◌<◌, ◌≤◌, Bool, false, sym, ap, ◌∙◌, subst, arith}
+use Rattle.std.proofs.Common.{◌≡◌, ℕ, ◌^◌, ◌<◌, false, ap, ◌∙◌, arith}
 use Rattle.cards.specs.Decks.{bit_reading}
 use Rattle.protocol.specs.States.{same_reading, errs}
 use Rattle.rows.specs.Views.{row_view}

@@ -1,4 +1,4 @@
-use Rattle.std.proofs.Common.{◌≡◌, ℕ, ◌-◌, ◌^◌}
+use Rattle.std.proofs.Common.{◌≡◌, ◌-◌, ◌^◌}
 use Rattle.protocol.specs.Machine.{Protocol}
 use Rattle.protocol.specs.States.{first_input}
 use Rattle.rows.specs.Views.{row_view}

@@ -1,4 +1,4 @@
-use Rattle.std.proofs.Common.{◌≡◌, ℕ, ◌<◌, cond, ltb, length, get_or}
+use Rattle.std.proofs.Common.{◌≡◌, ℕ, cond, ltb, length, get_or}
 use Rattle.rows.proofs.start.lay.Given as goal
 
 abbrev pub invariant-loop-s : goal.invariant-loop-s

@@ -1,5 +1,4 @@
-use Rattle.std.proofs.Common.{◌≡◌, ℕ, suc, ◌+◌, ◌*◌, ◌%◌, ◌^◌, ◌<◌, ◌≤◌, cond, eqb, ltb, List, length, get_or, take, Some, sym, refl, ap, ◌∙◌, subst, arith, rules}
-use Rattle.protocol.specs.Machine.{Protocol}
+use Rattle.std.proofs.Common.{◌≡◌, ℕ, ◌^◌, ◌<◌, cond, ltb, List, take, sym, ap, ◌∙◌, subst, arith}
 use Rattle.protocol.specs.States.{Row, started, total_of}
 use Rattle.rows.specs.Views.{row_view, rows_view}
 use Rattle.rows.proofs.Standing.{standing_join, written_standing}
@@ -12,26 +11,26 @@ unit-row-requires g c =
     let f = few_inputs c.args.players c.requires.players in
     record { codes = c.requires.codes; input = omega (arith, c.loop-input-test.true) }
 
-pub returns-in-err-len : goal.returns-in-err-len
-returns-in-err-len g c =
+pub returns-in_err-len : goal.returns-in_err-len
+returns-in_err-len g c =
     record {
       put = λ p h.
           let e = inputs_are c.args.players c.requires.players in
           let l : c.loop-input.input < 2 ^ p.script.players = subst (λ (k : ℕ). c.loop-input.input < 2 ^ k) (sym h.players_are) (omega (arith, c.loop-input-test.true)) in
           let k = started_room p c.loop-input.input (2 ^ p.script.players) (row_view c.unit-row.result) (rows_view (take c.loop-input.len c.loop-input.room)) l (c.unit-row.ensures.value p c.args.players h) (c.loop-input.invariant.2 p h) in
-          let f = c.in-err-len.ensures.put in
+          let f = c.in_err-len.ensures.put in
           let long = c.loop-input.invariant.0.long in
-          rw c.from-residual.ensures (omega arith);
-      totals = λ len b e l. absurd (let z : ◌≡◌ {A = ℕ} 0 1 = cc c.from-residual.ensures in omega arith);
+          rw c.from_residual.ensures (omega arith);
+      totals = λ len b e l. absurd (let z : ◌≡◌ {A = ℕ} 0 1 = cc c.from_residual.ensures in omega arith);
     }
 
 pub loop-input-preserved : goal.loop-input-preserved
 loop-input-preserved g c =
-    let w = c.in-ok-len.ensures.put in
+    let w = c.in_ok-len.ensures.put in
     let r : Row = row_view c.unit-row.result in
     let S : List Row = rows_view (take c.loop-input.len c.loop-input.room) in
-    let T : List Row = rows_view (take c.in-ok-len.len c.join.new.rows) in (
-      standing_join c.loop-input.len c.in-ok-len.len c.loop-input.room c.args.room.now c.join.new.rows r c.loop-input.invariant.0 c.join.auto.rows w,
+    let T : List Row = rows_view (take c.in_ok-len.len c.join.new.rows) in (
+      standing_join c.loop-input.len c.in_ok-len.len c.loop-input.room c.args.room.now c.join.new.rows r c.loop-input.invariant.0 c.join.auto.rows w,
       (λ b l. unit_total b c.loop-input.input r S T l c.unit-row.ensures.weights (c.loop-input.invariant.1 b l) w.here),
       λ p h. started_next p c.loop-input.input r S T (c.unit-row.ensures.value p c.args.players h) (c.loop-input.invariant.2 p h) w.here,
     )

@@ -1,4 +1,4 @@
-use Rattle.std.proofs.Common.{◌≡◌, ℕ, ◌<◌, cond, eqb, ltb, List, length, get_or, set, sym, refl, ap, ◌∙◌, arith, rules}
+use Rattle.std.proofs.Common.{◌≡◌, ℕ, cond, eqb, set, ap, ◌∙◌}
 use Rattle.cards.specs.Lists.{table}
 use Rattle.rows.proofs.Starts.{zeros, unit_weights, unit_is}
 use Rattle.rows.proofs.start.unit.Goals as goal

@@ -1,4 +1,4 @@
-use Rattle.std.proofs.Common.{◌≡◌, ℕ, ◌+◌, ◌-◌, ◌≤◌, Bool, List, length, get_or, take, set, Some, filter, sym, ap, ◌∙◌, subst, arith}
+use Rattle.std.proofs.Common.{◌≡◌, ℕ, ◌+◌, ◌-◌, ◌≤◌, Bool, List, length, get_or, take, set, sym, ap, ◌∙◌, subst, arith}
 use native.Mathlib.Nat.{sub-zero}
 use Rattle.protocol.specs.Machine.{same}
 use Rattle.protocol.specs.States.{Row, shows, is_shown, total_of}
@@ -7,7 +7,7 @@ use Rattle.rows.specs.Views.{row_view, rows_view}
 use Rattle.rows.proofs.Runs.{past}
 use Rattle.rows.proofs.Gathered.{Copied, copied_yes, copied_no, copied_full, copied_all, kept_total}
 use Rattle.rows.proofs.turn.gather.Goals as goal
-use Rattle.rows.proofs.turn.gather.Goals.{then-same+else-len-room, else_same}
+use Rattle.rows.proofs.turn.gather.Goals.{then-same+else-len-room, else-same}
 
 -- what the code compares is whether the row shows the marks
 tested : (n : ℕ) (places marks written : List ℕ) (x : Row) (answer : Bool) → answer ≡ same (take (length places - 0) written) (take (length places - 0) marks) → take (length places) written ≡ shows n places x → is_shown n places (take (length places) marks) x ≡ answer
@@ -35,7 +35,7 @@ loop-row-preserved c =
           subst (λ (xs : List code.Row). Copied test rows (i + 1) c.if-same.len xs c.args.room.now) (sym w.room-is)
           (subst (λ (k : ℕ). Copied test rows (i + 1) k (set c.loop-row.room c.loop-row.len (get_or rows i past)) c.args.room.now) (sym w.len-is)
           (copied_yes test rows i c.loop-row.len c.loop-row.room c.args.room.now c.loop-row.invariant c.loop-row-test.true w.if-len-room.false (is ∙ w.if-same.true)))
-      | else_same w ↦
+      | else-same w ↦
           subst (λ (xs : List code.Row). Copied test rows (i + 1) c.if-same.len xs c.args.room.now) (sym w.room-is)
           (subst (λ (k : ℕ). Copied test rows (i + 1) k c.loop-row.room c.args.room.now) (sym w.len-is)
           (copied_no test rows i c.loop-row.len c.loop-row.room c.args.room.now c.loop-row.invariant c.loop-row-test.true (is ∙ w.if-same.false)))

@@ -1,4 +1,4 @@
-use Rattle.std.proofs.Common.{◌≡◌, sym, ◌∙◌, add-one, arith, rules}
+use Rattle.std.proofs.Common.{sym, ◌∙◌, add-one, arith}
 use Rattle.sheet.specs.Chunks.{found, seeks, not_found}
 use Rattle.sheet.proofs.actions.has_target.Goals as goal
 
@@ -9,7 +9,7 @@ returns-then-rest-turned c =
 pub loop-rest-preserved : goal.loop-rest-preserved
 loop-rest-preserved c = (
   c.loop-rest.invariant.0
-      ∙ seeks c.args.turned c.args.line c.loop-rest.rest.now _ (omega arith) (rw add-one at c.split-at.ensures.back) (omega arith),
+      ∙ seeks c.args.turned c.args.line c.loop-rest.rest.now _ (omega arith) (rw add-one at c.split_at.ensures.back) (omega arith),
   omega arith,
 )
 

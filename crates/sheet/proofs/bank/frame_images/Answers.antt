@@ -14,4 +14,4 @@ returns c =
 pub loop-s-preserved : goal.loop-s-preserved
 loop-s-preserved c =
     filled (image (shuffle_of c.args.cards (view c.args.frame)) c.args.draw) c.loop-s.images c.loop-s.s c.from.result c.number.result c.loop-s.invariant.0 c.loop-s-test.true c.from.ensures
-    (c.number.ensures ∙ (c.frame-image.ensures ∙ ap (image (shuffle_of c.args.cards (view c.args.frame)) c.args.draw) c.at.ensures)) c.loop-s.invariant.1
+    (c.number.ensures ∙ (c.frame_image.ensures ∙ ap (image (shuffle_of c.args.cards (view c.args.frame)) c.args.draw) c.at.ensures)) c.loop-s.invariant.1

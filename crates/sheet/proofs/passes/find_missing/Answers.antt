@@ -1,4 +1,4 @@
-use Rattle.std.proofs.Common.{◌≡◌, ◌+◌, ◌*◌, true, false, not, None, sym, subst, arith, rules}
+use Rattle.std.proofs.Common.{◌≡◌, ◌+◌, ◌*◌, not, None, sym, subst, arith}
 use Rattle.cards.specs.Lists.{member}
 use Rattle.sheet.specs.First.{first, given}
 use Rattle.sheet.specs.Firsts.{first_zero, first_more, first_some}

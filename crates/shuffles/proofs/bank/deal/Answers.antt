@@ -1,7 +1,6 @@
 use Rattle.std.proofs.Common.{◌≡◌, ℕ, ◌<◌, List, length, get_or, sym, ap, ◌∙◌, subst, zero-add, arith, rules}
 use Rattle.std.proofs.lemmas.List.FromFn.{get_or-map-range_with_len}
 use Rattle.cards.specs.Shuffles.{ShuffleMeaning, image}
-use Rattle.cards.specs.Lists.{table}
 use Rattle.cards.specs.Rows.{carried, Found, OneToOne}
 use Rattle.shuffles.specs.Lawful.{image_one, listed}
 use Rattle.cards.proofs.Moves.{carried_same, carried_found}

@@ -1,4 +1,4 @@
-use Rattle.std.proofs.Common.{◌≡◌, ◌+◌, true, [], length, get_or}
+use Rattle.std.proofs.Common.{◌≡◌, true, [], length, get_or}
 use Rattle.cards.specs.Shuffles.{entries_of, sound_entries, spelled}
 use Rattle.shuffles.proofs.explicit.image_in.Given as goal
 

@@ -1,4 +1,4 @@
-use Rattle.std.proofs.Common.{◌+◌, arith}
+use Rattle.std.proofs.Common.{arith}
 use Rattle.shuffles.specs.Positions.{position_here, position_later, position_end}
 use Rattle.shuffles.proofs.lists.find.Goals as goal
 

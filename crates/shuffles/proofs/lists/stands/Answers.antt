@@ -1,4 +1,4 @@
-use Rattle.std.proofs.Common.{ℕ, ltb, length, sym, ap, ◌∙◌, subst}
+use Rattle.std.proofs.Common.{ℕ, ltb, length, sym, ap, ◌∙◌}
 use Rattle.shuffles.specs.Positions.{member_is}
 use Rattle.shuffles.proofs.lists.stands.Goals as goal
 

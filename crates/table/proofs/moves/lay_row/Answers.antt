@@ -1,4 +1,4 @@
-use Rattle.std.proofs.Common.{ℕ, ◌<◌, cond, ltb, get_or, arith}
+use Rattle.std.proofs.Common.{cond, ltb, get_or, arith}
 use Rattle.std.proofs.lemmas.List.FromFn.{fill_by_all}
 use Rattle.table.proofs.moves.lay_row.Goals as goal
 

@@ -1,4 +1,4 @@
-use Rattle.std.proofs.Common.{◌≡◌, ◌∙◌, inl, inr, arith}
+use Rattle.std.proofs.Common.{◌∙◌, inl, inr}
 use Rattle.table.proofs.Carrying.{unfit}
 use Rattle.table.proofs.moves.shuffle_row.Goals as goal
 

@@ -7,22 +7,22 @@ use Rattle.tree.specs.Walks.{playing, answer_view}
 use Rattle.tree.proofs.Rooting.{lawful_of, certified}
 use Rattle.tree.proofs.certifying.certify_rows.Goals as goal
 
-pub returns-in-err-walk-rows : goal.returns-in-err-walk-rows
-returns-in-err-walk-rows g c =
+pub returns-in_err-walk_rows : goal.returns-in_err-walk_rows
+returns-in_err-walk_rows g c =
     let p : Protocol = playing c.args.script.now (g.D.Deck.means c.args.deck.now) (g.B.Bank.at c.args.bank.now) in
-    let exit = err_from_is_err_and c.from-residual.result c.from-residual.ensures.1 in
-    let fault : TreeFault = c.in-err-walk-rows.field-0.0 in
+    let exit = err_from_is_err_and c.from_residual.result c.from_residual.ensures.1 in
+    let fault : TreeFault = c.in_err-walk_rows.field-0.0 in
     let err : TreeFault → Result Certificate TreeFault = λ f. Err f in
     record {
       answer = ap (answer_view (inputs p)) (exit.1 ∙ ap err exit.2)
-          ∙ certified p (length c.args.bench.now) c.blank-certificate.result c.walk-rows.new.visitor (Err fault) (lawful_of c.args.script.now).few_players c.blank-certificate.ensures c.in-err-walk-rows.ensures.walked;
-      zeroed = c.walk-rows.ensures.zeroed;
+          ∙ certified p (length c.args.bench.now) c.blank-certificate.result c.walk_rows.new.visitor (Err fault) (lawful_of c.args.script.now).few_players c.blank-certificate.ensures c.in_err-walk_rows.ensures.walked;
+      zeroed = c.walk_rows.ensures.zeroed;
     }
 
 pub returns : goal.returns
 returns g c =
     let p : Protocol = playing c.args.script.now (g.D.Deck.means c.args.deck.now) (g.B.Bank.at c.args.bank.now) in
     record {
-      answer = certified p (length c.args.bench.now) c.blank-certificate.result c.walk-rows.new.visitor (Ok c.in-ok-walk-rows.field-0) (lawful_of c.args.script.now).few_players c.blank-certificate.ensures c.in-ok-walk-rows.ensures.walked;
-      zeroed = c.walk-rows.ensures.zeroed;
+      answer = certified p (length c.args.bench.now) c.blank-certificate.result c.walk_rows.new.visitor (Ok c.in_ok-walk_rows.field-0) (lawful_of c.args.script.now).few_players c.blank-certificate.ensures c.in_ok-walk_rows.ensures.walked;
+      zeroed = c.walk_rows.ensures.zeroed;
     }

@@ -11,4 +11,4 @@ returns-in-Some g c =
     let p : Protocol = playing c.args.script.now (g.D.Deck.means c.args.deck.now) bank in
     let h = sym c.head-head.ensures in
     let w = c.first_wrong.ensures p c.args.line (record { players_are = ap (λ (x : Head). x.players) h; function_is = ap (λ (x : Head). x.function) h }) (ap (λ (x : Head). x.cards) h) refl (sym c.in-Some.ensures) in
-    c.is-some.ensures ∙ some_wrong c.first_wrong.result ∙ ap is_some w
+    c.is_some.ensures ∙ some_wrong c.first_wrong.result ∙ ap is_some w

@@ -24,7 +24,7 @@ enter-requires g c =
     let lays : Lays p c.head-players.result.players c.codes-codes.result.now (g.D.Deck.means c.args.deck.now) =
     record { cards_are = sym (lawful_of c.args.script.now).laid ∙ ap length (sym c.codes-codes.ensures); players_are = ap (λ (x : Head). x.players) h; codes_are = sym c.codes-codes.ensures; deck_is = refl } in
     record {
-      entered = entered_start c.args.script.now c.start-made.result (start_state p) c.split-at-mut-room.result.0.now c.start-made.new.room (c.start-made.ensures.put p lays) c.start-made.auto.room c.head-players.result.players
+      entered = entered_start c.args.script.now c.start-made.result (start_state p) c.split_at_mut-room.result.0.now c.start-made.new.room (c.start-made.ensures.put p lays) c.start-made.auto.room c.head-players.result.players
           (λ m b f k. c.start-made.ensures.totals m b f k);
       long = search rules;
     }
@@ -36,9 +36,9 @@ returns g c =
     let lays : Lays p c.head-players.result.players c.codes-codes.result.now (g.D.Deck.means c.args.deck.now) =
     record { cards_are = sym (lawful_of c.args.script.now).laid ∙ ap length (sym c.codes-codes.ensures); players_are = ap (λ (x : Head). x.players) h; codes_are = sym c.codes-codes.ensures; deck_is = refl } in
     let room : length c.start-made.new.room ≡ bench_rows (length c.args.bench.now) =
-    (let least = c.min-len.ensures in let front = c.split-at-mut-room.ensures.front-len in let kept = c.start-made.auto.room in omega arith) in
+    (let least = c.min-len.ensures in let front = c.split_at_mut-room.ensures.front_len in let kept = c.start-made.auto.room in omega arith) in
     record {
       walked = root_walked g.V.Visitor.visits p (length c.args.bench.now) (length c.start-made.new.room) c.args.visitor.now c.enter.new.visitor c.enter.result room
-          (c.enter.ensures.walked (start_state p) (held c.start-made.result (start_state p) c.split-at-mut-room.result.0.now c.start-made.new.room (c.start-made.ensures.put p lays) c.start-made.auto.room));
+          (c.enter.ensures.walked (start_state p) (held c.start-made.result (start_state p) c.split_at_mut-room.result.0.now c.start-made.new.room (c.start-made.ensures.put p lays) c.start-made.auto.room));
       zeroed = search rules;
     }

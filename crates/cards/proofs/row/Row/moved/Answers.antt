@@ -1,4 +1,4 @@
-use Rattle.std.proofs.Common.{◌≡◌, ℕ, ◌+◌, List, length, get_or, sym, ◌∙◌, subst, inl, inr, arith, rules}
+use Rattle.std.proofs.Common.{◌≡◌, ℕ, List, length, get_or, sym, ◌∙◌, subst, inl, inr, arith, rules}
 use Rattle.cards.proofs.Moves.{moved_step, settle_all, carried_found}
 use Rattle.cards.specs.Rows.{carried, OneToOne, Found}
 use Rattle.cards.proofs.row.Row.moved.Goals as goal
@@ -8,8 +8,8 @@ pub loop-s-preserved : goal.loop-s-preserved
 loop-s-preserved c =
     let long : length c.args.self.cards ≡ 12 = search rules in
     elim c.if-to-lt12.branch [
-      | then-to-lt12 w ↦ moved_step c.args.images c.args.self.cards c.loop-s.after c.if-to-lt12.after c.loop-s.s c.from_to.result (omega arith) c.loop-s.invariant.1 c.from_to.ensures (inl w.after-is) _ c.loop-s.invariant.0
-      | else-to-lt12 w ↦ moved_step c.args.images c.args.self.cards c.loop-s.after c.if-to-lt12.after c.loop-s.s c.from_to.result (omega arith) c.loop-s.invariant.1 c.from_to.ensures (inr (w.if-to-lt12.false, w.after-is)) _ c.loop-s.invariant.0
+      | then-to-lt12 w ↦ moved_step c.args.images c.args.self.cards c.loop-s.after c.if-to-lt12.after c.loop-s.s c.from-to.result (omega arith) c.loop-s.invariant.1 c.from-to.ensures (inl w.after-is) _ c.loop-s.invariant.0
+      | else-to-lt12 w ↦ moved_step c.args.images c.args.self.cards c.loop-s.after c.if-to-lt12.after c.loop-s.s c.from-to.result (omega arith) c.loop-s.invariant.1 c.from-to.ensures (inr (w.if-to-lt12.false, w.after-is)) _ c.loop-s.invariant.0
     ]
 
 pub returns : goal.returns

@@ -1,16 +1,16 @@
-use Rattle.std.proofs.Common.{◌≡◌, ℕ, ◌+◌, ◌*◌, ◌^◌, ◌<◌, ◌≤◌, min, length, get_or, sym, ap, ◌∙◌, arith, rules}
+use Rattle.std.proofs.Common.{◌≡◌, ℕ, ◌<◌, min, length, ap, ◌∙◌, arith, rules}
 use Rattle.std.proofs.lemmas.Int.Digits.{number_more}
 use Rattle.cards.specs.Rows.{packed, unpacked}
 use Rattle.cards.proofs.Moves.{packs, packed_all, unpack_pack}
 use Rattle.cards.proofs.row.Row.pack.Goals as goal
 
-pub overflow-mul-number : goal.overflow-mul-number
-overflow-mul-number c =
+pub overflow_mul-number : goal.overflow_mul-number
+overflow_mul-number c =
     let few : c.loop-s.s < 12 = omega (arith, c.min.ensures, c.from-s-end.ensures) in
     let p = packs c.loop-s.s c.loop-s.number 0 few c.loop-s.invariant.1 (omega arith) in omega (arith, p.0)
 
-pub overflow-add-number : goal.overflow-add-number
-overflow-add-number c =
+pub overflow_add-number : goal.overflow_add-number
+overflow_add-number c =
     let few : c.loop-s.s < 12 = omega (arith, c.min.ensures, c.from-s-end.ensures) in
     let small : c.from.result < 256 = search rules in
     let p = (packs c.loop-s.s c.loop-s.number c.from.result few c.loop-s.invariant.1 small).1 in omega (arith, p.0)

@@ -1,5 +1,5 @@
-use Rattle.std.proofs.Common.{◌≡◌, vec_items, ap, ◌∙◌}
-use Rattle.sheet.specs.Sheets.{sheet_bytes, script_bytes}
+use Rattle.std.proofs.Common.{vec_items, ap, ◌∙◌}
+use Rattle.sheet.specs.Sheets.{script_bytes}
 use Rattle.sheet.specs.Verdicts.{verdict}
 use Rattle.sheet.specs.Lawful.{lawful_script}
 use Rattle.sheet.proofs.Paths.{small_products}

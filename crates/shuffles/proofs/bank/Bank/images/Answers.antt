@@ -1,4 +1,4 @@
-use Rattle.std.proofs.Common.{ℕ, ◌<◌, arith}
+use Rattle.std.proofs.Common.{arith}
 use Rattle.std.proofs.lemmas.List.FromFn.{fill_by_all}
 use Rattle.cards.specs.Shuffles.{image}
 use Rattle.shuffles.proofs.bank.Bank.images.Goals as goal

@@ -1,4 +1,4 @@
-use Rattle.std.proofs.Common.{◌≡◌, ℕ, ◌<◌, List, [], get_or, sym, ap, ◌∙◌, subst, arith}
+use Rattle.std.proofs.Common.{◌≡◌, ℕ, ◌<◌, List, [], get_or, ap, ◌∙◌, arith}
 use Rattle.cards.specs.Shuffles.{entries_of, spelled, weights}
 use Rattle.shuffles.specs.Entries.{explicit_row}
 use Rattle.shuffles.proofs.explicit.ExplicitShuffle.image.Goals as goal

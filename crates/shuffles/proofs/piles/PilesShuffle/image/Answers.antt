@@ -1,4 +1,4 @@
-use Rattle.std.proofs.Common.{◌≡◌, ℕ, ◌+◌, ◌*◌, ◌/◌, ◌%◌, ◌<◌, true, sym, ◌∙◌, subst, arith}
+use Rattle.std.proofs.Common.{◌≡◌, ◌+◌, ◌*◌, ◌/◌, ◌%◌, ◌<◌, true, sym, ◌∙◌, subst, arith}
 use Rattle.cards.specs.Shuffles.{image, piles, piles_fit}
 use Rattle.shuffles.specs.Lawful.{pile_bound}
 use Rattle.shuffles.proofs.piles.PilesShuffle.image.Goals as goal
@@ -14,11 +14,11 @@ small g c =
     let in' : c.number-s.result < (piles m b).width = subst (λ w. c.number-s.result < w) c.width.ensures c.if-s-width.false in
     pile_bound m b (g.met.S.Shuffle.lawful c.args.self.now.below) c.args.draw c.number-s.result _ fit in' e
 
-pub overflow-mul-pile : goal.overflow-mul-pile
-overflow-mul-pile g c = let h = small g c in omega arith
+pub overflow_mul-pile : goal.overflow_mul-pile
+overflow_mul-pile g c = let h = small g c in omega arith
 
-pub overflow-add-pile : goal.overflow-add-pile
-overflow-add-pile g c = let h = small g c in omega arith
+pub overflow_add-pile : goal.overflow_add-pile
+overflow_add-pile g c = let h = small g c in omega arith
 
 pub at-requires-2 : goal.at-requires-2
 at-requires-2 g c = small g c

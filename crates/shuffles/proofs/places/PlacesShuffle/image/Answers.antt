@@ -1,4 +1,4 @@
-use Rattle.std.proofs.Common.{◌≡◌, ℕ, ◌+◌, ◌≤◌, true, List, length, get_or, sym, ap, ◌∙◌, subst}
+use Rattle.std.proofs.Common.{◌≡◌, ℕ, ◌+◌, ◌≤◌, true, List, length, sym, ap, ◌∙◌, subst}
 use Rattle.cards.specs.Lists.{position}
 use Rattle.cards.specs.Shuffles.{image, places, places_fit}
 use Rattle.shuffles.specs.Lawful.{Lands, lands, stays}

@@ -20,9 +20,9 @@ returns g c =
     let before : Certificate = c.args.self.now in
     let number : ℕ = c.args.node.number in
     let h = sym c.head-head.ensures in
-    let leak = c.leaks-leaking.ensures p rows (record { players_are = ap (λ (x : Head). x.players) h; function_is = ap (λ (x : Head). x.function) h }) (ap (λ (x : Head). output_of x.output) h ∙ sym c.is-open.ensures) c.requires.totals_are in
+    let leak = c.leaks-leaking.ensures p rows (record { players_are = ap (λ (x : Head). x.players) h; function_is = ap (λ (x : Head). x.function) h }) (ap (λ (x : Head). output_of x.output) h ∙ sym c.is_open.ensures) c.requires.totals_are in
     same_certificate _ (noted p (node_at number c.args.node.line goal rows trace) (view (inputs p) before))
     (add-one number ∙ ap suc (sym f))
-    (c.first-noted-self.ensures ∙ ap (λ (t : Bool). option_or before.wrong (noted_number t number)) (c.wrong-at-wrong.ensures bank))
-    (c.first-noted-self-2.ensures ∙ ap (λ (t : Bool). option_or before.leaking (noted_number t number)) leak)
-    (c.classes-at-self.ensures p.deck bank rows c.requires.totals_are)
+    (c.first_noted-self.ensures ∙ ap (λ (t : Bool). option_or before.wrong (noted_number t number)) (c.wrong_at-wrong.ensures bank))
+    (c.first_noted-self-2.ensures ∙ ap (λ (t : Bool). option_or before.leaking (noted_number t number)) leak)
+    (c.classes_at-self.ensures p.deck bank rows c.requires.totals_are)
