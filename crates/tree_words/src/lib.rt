@@ -1,13 +1,17 @@
 // A certificate and the refusals of certify, in plain words.
 #![tactic(auto)]
 
+ghost use Rattle.std.specs.Prelude.{◌≡◌, ◌^◌, min};
+
 use std::alloc::{AllocError, Global};
 use std::io;
 use tree::certificate::Certificate;
 use tree::fault::TreeFault;
 
 // How many inputs so many players have, of whom there are at most three.
-pub fn count_inputs(players: u8) -> u8 {
+pub fn count_inputs(players: u8) -> u8
+    ensures { result ≡ 2 ^ min players 3 }
+{
     match players {
         0 => 1,
         1 => 2,
