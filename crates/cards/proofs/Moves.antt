@@ -4,7 +4,7 @@ use native.Mathlib.Nat.{pow-le-pow_right, div-div-eq-div-mul, div-eq_of_lt}
 use Rattle.std.proofs.lemmas.Bool.{cases_lt, cases_eq, cond-true, cond-false, lt-ltb, le-ltb}
 use Rattle.std.proofs.lemmas.List.{at_drop_more, at_drop_all, length-set, set_past, get_or-set_same, get_or-set_other, take_all, get_or_past}
 use Rattle.std.proofs.lemmas.Int.Digits.{number_more, number_push}
-use Rattle.std.proofs.lemmas.Nat.{div-mul-add, mod-mul-add, mod_below}
+use Rattle.std.proofs.lemmas.Nat.{div-mul-add, mod-mul-add, mod_below, pow-add}
 use Rattle.std.specs.Int.Digits.{number_from_digits}
 use Rattle.std.proofs.lemmas.List.FromFn.{get_or-map-range_with_len, length-map-range_with_len, fill_by_all, map-range_with_len_more, take-map-range_with_len}
 use Rattle.cards.specs.Lists.{table}
@@ -229,3 +229,10 @@ settled_same f g s (c ∷ cs) after same =
 
 pub carried_same : (f g : ℕ → ℕ) (row : List ℕ) → ((i : ℕ) → i < length row → f i ≡ g i) → carried f row ≡ carried g row
 carried_same f g row same = settled_same f g 0 row row (λ i h. same i (omega arith))
+
+-- four bits are a digit of base 16
+pub sixteens : (k : ℕ) → 2 ^ (4 * k) ≡ 16 ^ k
+sixteens zero = refl
+sixteens (suc k) =
+    let more : 2 ^ (4 * suc k) ≡ 2 ^ (4 * k) * 16 = ap (λ (n : ℕ). 2 ^ n) (let e : 4 * suc k ≡ 4 * k + 4 = omega arith in e) ∙ pow-add 2 (4 * k) 4 in
+    more ∙ ap (λ (n : ℕ). n * 16) (sixteens k) ∙ sym (pow-suc 16 k)

@@ -1,5 +1,5 @@
 -- What a deck means, and what the two decks of the house mean.
-use Rattle.std.specs.Prelude.{◌≡◌, ℕ, ◌+◌, ◌-◌, ◌*◌, ◌/◌, ◌%◌, ◌^◌, ◌<◌, Bool, false, cond, ◌&&◌, ◌||◌, ◌==◌, nat_le, nat_lt}
+use Rattle.std.specs.Prelude.{◌≡◌, ℕ, ◌+◌, ◌-◌, ◌*◌, ◌/◌, ◌%◌, ◌^◌, ◌<◌, Bool, false, cond, Option, Some, None, ◌&&◌, ◌||◌, ◌==◌, nat_le, nat_lt}
 use Rattle.cards.specs.declared.reading.Reading.{Reading}
 use Rattle.cards.specs.declared.reading.Reading.TheVariants.{Zero, One, Neither}
 
@@ -21,6 +21,12 @@ bit b i = (b / 2 ^ i) % 2
 
 abbrev pub bit_reading : ℕ → Reading
 bit_reading b = cond (b == 0) Zero One
+
+-- the bit that a reading is, where it is one
+abbrev pub reading_bit : Reading → Option ℕ
+reading_bit Zero = Some 0
+reading_bit One = Some 1
+reading_bit Neither = None
 
 -- Which codes may lie and which may repeat in a layout of k players; which card a code is under an input; how a pair
 -- of cards reads.

@@ -1,9 +1,10 @@
 // The interface of a deck. It answers for any numbers, refuses nothing and never changes.
-ghost use Rattle.std.specs.Prelude.{◌≡◌, ◌<◌};
+ghost use Rattle.std.specs.Prelude.{◌≡◌, ◌+◌, ◌-◌, ◌/◌, ◌%◌, ◌<◌, ◌≤◌, ◌==◌, if◌then◌else◌};
 ghost use Rattle.cards.specs.Decks.{DeckMeaning, LawfulDeck, two_colour, standard, player_code, bit, ordered};
 ghost use Rattle.std.proofs.Common.{rules};
 
 use crate::reading::Reading;
+use std::cmp::Ordering;
 
 pub trait Deck {
     ghost means: { Self → DeckMeaning };
@@ -31,27 +32,39 @@ pub trait Deck {
 fn player_code(players: u8, code: u8) -> bool
     ensures { result ≡ player_code players code }
 {
-    code >= 16 && code < 22 && u16::from(code) < 16 + 2 * u16::from(players)
+    (16..22).contains(&code) && u16::from(code) < 16 + 2 * u16::from(players)
 }
 
 // Bit i of the number.
-fn bit_of(number: u8, i: u8) -> u8
+pub fn bit_of(number: u8, i: u8) -> u8
     requires { i < 8 }
     ensures { result ≡ bit number i }
 {
     (number >> i) % 2
 }
 
+// The card of a player's code under the input. The lower of the player's two cards is `low`, and the other the next; the
+// left code has the lower one for bit 0.
+fn player_card(low: u8, code: u8, input: u8) -> u8
+    requires { (16 ≤ code) × ((code < 22) × (low ≤ 5)) }
+    ensures { result ≡ (if code % 2 == 0 then low + bit input ((code - 16) / 2) else low + 1 - bit input ((code - 16) / 2)) }
+{
+    let bit = bit_of(input, (code - 16) / 2);
+    if code % 2 == 0 {
+        low + bit
+    } else {
+        low + 1 - bit
+    }
+}
+
 // A pair reads 0 where its left card is below the right, and 1 where it is above.
 fn compare(left: u8, right: u8) -> Reading
     ensures { result ≡ ordered left right }
 {
-    if left < right {
-        Reading::Zero
-    } else if right < left {
-        Reading::One
-    } else {
-        Reading::Neither
+    match left.cmp(&right) {
+        Ordering::Less => Reading::Zero,
+        Ordering::Greater => Reading::One,
+        Ordering::Equal => Reading::Neither,
     }
 }
 
@@ -73,11 +86,11 @@ impl Deck for TwoColour {
     }
 
     fn card(&self, code: u8, input: u8) -> u8 {
-        if !player_code(3, code) {
-            return if code == 1 { 1 } else { 0 };
+        if player_code(3, code) {
+            player_card(0, code, input)
+        } else {
+            u8::from(code == 1)
         }
-        let bit = bit_of(input, (code - 16) / 2);
-        if code % 2 == 0 { bit } else { 1 - bit }
     }
 
     fn read(&self, left: u8, right: u8) -> Reading {
@@ -104,15 +117,12 @@ impl Deck for Standard {
     }
 
     fn card(&self, code: u8, input: u8) -> u8 {
-        if !player_code(3, code) {
-            return if code <= 12 { code } else { 0 };
-        }
-        let player = (code - 16) / 2;
-        let bit = bit_of(input, player);
-        if code % 2 == 0 {
-            2 * player + 1 + bit
+        if player_code(3, code) {
+            player_card(2 * ((code - 16) / 2) + 1, code, input)
+        } else if code <= 12 {
+            code
         } else {
-            2 * player + 2 - bit
+            0
         }
     }
 

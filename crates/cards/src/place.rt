@@ -15,11 +15,7 @@ impl Place {
     pub fn new(number: u8) -> Option<Place>
         ensures { MatchOption result ((1 ≤ number → 12 < number)) (λ p. p.number ≡ number) }
     {
-        if number >= 1 && number <= 12 {
-            Some(Place::at(number))
-        } else {
-            None
-        }
+        (1..=12).contains(&number).then(|| Place::at(number))
     }
 
     // The place of a number that is known to be 1 to 12.

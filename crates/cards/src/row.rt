@@ -1,11 +1,33 @@
 // A row of cards.
-ghost use Rattle.std.specs.Prelude.{◌≡◌, ◌^◌, ◌<◌, ◌≤◌, min, slice_index};
+ghost use Rattle.std.specs.Prelude.{◌≡◌, ◌-◌, ◌/◌, ◌%◌, ◌^◌, ◌<◌, ◌≤◌, if◌then◌else◌, nat_lt, min, slice_index};
 ghost use Rattle.cards.specs.Rows.{carried, packed, unpacked, OneToOne, Found, Dealt};
+
+use std::array;
 
 // Twelve cards by value; the card in slot s stands at index s. In a row of n cards the slots from n on hold card 0.
 #[derive(Clone, Copy)]
 pub struct Row {
     pub cards: [u8; 12],
+}
+
+// The digit of base 16 in the slot, of so many digits; past them 0.
+fn digit(number: u64, digits: usize, slot: usize) -> u8
+    requires { digits ≤ 12 }
+    ensures { result ≡ (if nat_lt slot digits then (number / 16 ^ (digits - 1 - slot)) % 16 else 0) }
+{
+    if slot < digits {
+        ((number >> (4 * (digits - 1 - slot))) % 16) as u8
+    } else {
+        0
+    }
+}
+
+// So many of the lowest digits of base 16; past them 0.
+fn digits(number: u64, digits: usize) -> [u8; 12]
+    requires { digits ≤ 12 }
+    ensures { result ≡ unpacked digits number }
+{
+    array::from_fn(|s| digit(number, digits, s))
 }
 
 impl Row {
@@ -15,10 +37,9 @@ impl Row {
         ensures found { OneToOne 12 (λ s. slice_index images s) → Found (λ s. slice_index images s) self.cards result.cards }
     {
         let mut after = self.cards;
-        for s in 0..12 {
-            let to = usize::from(images[s]);
-            if to < 12 {
-                after[to] = self.cards[s];
+        for (card, to) in self.cards.iter().zip(images.iter()) {
+            if *to < 12 {
+                after[usize::from(*to)] = *card;
             }
         }
         Row { cards: after }
@@ -30,8 +51,8 @@ impl Row {
         ensures back { n ≤ 12 → Dealt n self.cards → unpacked n result ≡ self.cards }
     {
         let mut number = 0u64;
-        for s in 0..usize::from(n.min(12)) {
-            number = number * 16 + u64::from(self.cards[s]);
+        for card in &self.cards[..usize::from(n.min(12))] {
+            number = number * 16 + u64::from(*card);
         }
         number
     }
@@ -43,12 +64,8 @@ impl Row {
         ensures dealt { Dealt (min n 12) result.cards }
         ensures back { n ≤ 12 → number < 16 ^ n → packed n result.cards ≡ number }
     {
-        let mut cards = [0u8; 12];
-        let mut left = number;
-        for s in (0..usize::from(n.min(12))).rev() {
-            cards[s] = (left % 16) as u8;
-            left /= 16;
+        Row {
+            cards: digits(number, usize::from(n.min(12))),
         }
-        Row { cards }
     }
 }

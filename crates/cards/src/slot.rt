@@ -3,6 +3,7 @@ ghost use Rattle.std.specs.Prelude.{◌≡◌, ◌+◌, ◌<◌, ◌≤◌, Matc
 
 use crate::place::Place;
 
+// By a rule of the project it is a type of its own beside the place, and one function each way leads between them.
 #[derive(Clone, Copy)]
 pub struct Slot {
     number: u8,
@@ -14,11 +15,7 @@ impl Slot {
     pub fn new(number: u8) -> Option<Slot>
         ensures { MatchOption result (12 ≤ number) (λ s. s.number ≡ number) }
     {
-        if number < 12 {
-            Some(Slot::at(number))
-        } else {
-            None
-        }
+        (number < 12).then(|| Slot::at(number))
     }
 
     // The slot of a number that is known to be below 12.

@@ -9,6 +9,7 @@ use cards::deck::Deck;
 use cards::place::Slot;
 use cards::reading::Reading;
 use shuffles::shuffle::Shuffle;
+use std::cmp::Ordering;
 
 mod tests;
 
@@ -45,7 +46,7 @@ pub struct Reversed;
 fn player_card(code: u8, input: u8) -> u8
     ensures { result ≡ reversed.card code input }
 {
-    if code < 16 || code >= 22 {
+    if !(16..22).contains(&code) {
         return 0;
     }
     let bit = (input >> ((code - 16) / 2)) % 2;
@@ -58,7 +59,7 @@ impl Deck for Reversed {
     ghost lawful = { Prim.search rules };
 
     fn may_lie(&self, players: u8, code: u8) -> bool {
-        code >= 16 && code < 22 && u16::from(code) < 16 + 2 * u16::from(players)
+        (16..22).contains(&code) && u16::from(code) < 16 + 2 * u16::from(players)
     }
 
     fn may_repeat(&self, _players: u8, _code: u8) -> bool {
@@ -70,12 +71,10 @@ impl Deck for Reversed {
     }
 
     fn read(&self, left: u8, right: u8) -> Reading {
-        if right < left {
-            Reading::Zero
-        } else if left < right {
-            Reading::One
-        } else {
-            Reading::Neither
+        match right.cmp(&left) {
+            Ordering::Less => Reading::Zero,
+            Ordering::Greater => Reading::One,
+            Ordering::Equal => Reading::Neither,
         }
     }
 }

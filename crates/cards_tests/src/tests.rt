@@ -124,76 +124,17 @@ mod edges {
         let twice: &[u8] = &[1, 1, 1];
         let high: &[u8] = &[1, 2, 0];
         let empty: &[u8] = &[];
-        assert_eq!(rt;
-            seen(
-                Explicit {
-                    slots: 2,
-                    entries: light,
-                },
-                0,
-            ),
-            (1, 1, STAY)
-        );
-        assert_eq!(rt;
-            seen(
-                Explicit {
-                    slots: 2,
-                    entries: cut_short,
-                },
-                0,
-            ),
-            (1, 1, STAY)
-        );
-        assert_eq!(rt;
-            seen(
-                Explicit {
-                    slots: 2,
-                    entries: twice,
-                },
-                0,
-            ),
-            (1, 1, STAY)
-        );
-        assert_eq!(rt;
-            seen(
-                Explicit {
-                    slots: 2,
-                    entries: high,
-                },
-                0,
-            ),
-            (1, 1, STAY)
-        );
-        assert_eq!(rt;
-            seen(
-                Explicit {
-                    slots: 2,
-                    entries: empty,
-                },
-                0,
-            ),
-            (1, 1, STAY)
-        );
-        assert_eq!(rt;
-            seen(
-                Explicit {
-                    slots: 0,
-                    entries: light,
-                },
-                0,
-            ),
-            (1, 1, STAY)
-        );
-        assert_eq!(rt;
-            seen(
-                Explicit {
-                    slots: 13,
-                    entries: light,
-                },
-                0,
-            ),
-            (1, 1, STAY)
-        );
+        for (slots, entries) in [
+            (2u8, light),
+            (2, cut_short),
+            (2, twice),
+            (2, high),
+            (2, empty),
+            (0, light),
+            (13, light),
+        ] {
+            assert_eq!(rt; seen(Explicit { slots, entries }, 0), (1, 1, STAY));
+        }
     }
 
     // 257 entries of weight 255 are 65,535 draws; one more is too many

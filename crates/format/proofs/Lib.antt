@@ -1,11 +1,8 @@
-pub mod Listing
-pub mod Orders
 pub mod Bytes
-pub mod Entries
+pub mod Listing
 pub mod Joining
-pub mod Branches
+pub mod Orders
 pub mod Shuffling
-pub mod Frames
-pub mod Kinding
 pub mod Powers
+pub mod Kinding
 pub mod Inversion

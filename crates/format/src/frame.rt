@@ -1,4 +1,5 @@
-// Frames of line 2 or later, and how one is read from its bytes.
+// Frames of line 2 or later.
+
 // A frame with its parts, which are lent from the sheet.
 #[derive(Clone, Copy)]
 pub enum Frame<'a> {
@@ -35,11 +36,10 @@ pub enum Frame<'a> {
     },
 }
 
-// What a shuffle's frame has before what belongs to its kind: the piles, the slots, the places, and the rest.
+// What a shuffle's frame has before what belongs to its kind: the piles, the slots and the places.
 #[derive(Clone, Copy)]
 pub struct Piled<'a> {
     pub piles: u8,
     pub slots: u8,
     pub places: &'a [u8],
-    pub rest: &'a [u8],
 }

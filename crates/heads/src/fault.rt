@@ -1,31 +1,30 @@
 // What check refuses a sheet for.
-ghost use Rattle.std.specs.Prelude.{◌≡◌};
 ghost use Rattle.heads.specs.Faults.{shown};
 
-use script::fault::Layer;
+use script::fault::{Layer, Refusal};
 
 #[derive(Clone, Copy, PartialEq, Eq, Debug)]
 pub enum SheetFault {
-    // A length byte is 0, above 128 or past the end, or begins a line too many.
+    // 8: a length byte is 0, above 128 or past the end, or begins a line too many.
     Length { line: u8 },
-    // The sheet has fewer than three lines.
+    // 9: the sheet has fewer than three lines.
     FewLines { lines: u8 },
-    // A frame's byte is missing, too many or against its rule.
+    // 10: a frame's byte is missing, too many or against its rule.
     Byte { line: u8, index: u8 },
-    // The layout lacks a player's code.
+    // 14: the layout lacks a player's code.
     PlayerCode { code: u8 },
-    // The kind of a result differs from the output that the head names.
+    // 17: the kind of a result differs from the output that the head names.
     ResultKind { line: u8 },
-    // The last line is no result.
+    // 18: the last line is no result.
     LastLine { line: u8 },
-    // A product of totals along a path exceeds 2^40.
+    // 19: a product of totals along a path exceeds 2^40.
     Product { line: u8 },
 }
 
-impl SheetFault {
-    pub fn number(&self) -> u8
-        ensures { result ≡ (shown self.now).number }
-    {
+impl Refusal for SheetFault {
+    ghost names = { shown };
+
+    fn number(&self) -> u8 {
         match self {
             SheetFault::Length { .. } => 8,
             SheetFault::FewLines { .. } => 9,
@@ -37,29 +36,23 @@ impl SheetFault {
         }
     }
 
-    pub fn layer(&self) -> Layer
-        ensures { result ≡ (shown self.now).layer }
-    {
+    fn layer(&self) -> Layer {
         Layer::Sheet
     }
 
-    pub fn line(&self) -> u8
-        ensures { result ≡ (shown self.now).line }
-    {
+    fn line(&self) -> u8 {
         match self {
-            SheetFault::Length { line } => *line,
+            SheetFault::Length { line }
+            | SheetFault::Byte { line, .. }
+            | SheetFault::ResultKind { line }
+            | SheetFault::LastLine { line }
+            | SheetFault::Product { line } => *line,
             SheetFault::FewLines { lines } => *lines,
-            SheetFault::Byte { line, .. } => *line,
             SheetFault::PlayerCode { .. } => 1,
-            SheetFault::ResultKind { line } => *line,
-            SheetFault::LastLine { line } => *line,
-            SheetFault::Product { line } => *line,
         }
     }
 
-    pub fn place(&self) -> u16
-        ensures { result ≡ (shown self.now).place }
-    {
+    fn place(&self) -> u16 {
         match self {
             SheetFault::Byte { index, .. } => u16::from(*index),
             SheetFault::PlayerCode { code } => u16::from(*code),

@@ -5,6 +5,7 @@ ghost use Rattle.std.proofs.Common.{rules};
 
 use cards::deck::{Deck, Standard, TwoColour};
 use cards::reading::Reading;
+use std::fmt;
 
 // The deck that is dealt.
 #[derive(Clone, Copy, PartialEq, Eq, Debug)]
@@ -36,18 +37,19 @@ pub fn head_from(bytes: &[u8]) -> Head
     ensures { result ≡ head_of bytes.now }
 {
     Head {
-        deck: DeckKind::of_byte(bytes[1]),
+        deck: DeckKind::from(bytes[1]),
         cards: bytes[2],
         players: bytes[3],
         function: bytes[4],
-        output: Output::of_byte(bytes[5]),
+        output: Output::from(bytes[5]),
     }
 }
 
-impl Output {
-    pub fn of_byte(b: u8) -> Output
-        ensures { result ≡ output_of_byte b }
-    {
+// The output that a head's byte names: 0 is committed, and any other byte counts as open.
+impl From<u8> for Output {
+    ghost from_gives = { λ b output. output ≡ output_of_byte b };
+
+    fn from(b: u8) -> Output {
         if b == 0 {
             Output::Committed
         } else {
@@ -56,16 +58,54 @@ impl Output {
     }
 }
 
-impl DeckKind {
-    pub fn of_byte(b: u8) -> DeckKind
-        ensures { result ≡ deck_of_byte b }
-    {
+impl fmt::Display for Output {
+    fn fmt<W: fmt::Write>(&self, f: &mut fmt::Formatter<W>) -> fmt::Result {
+        f.write_str(match self {
+            Output::Committed => "committed output",
+            Output::Open => "open output",
+        })
+    }
+}
+
+// The deck that a head's byte names: 0 is two-colour, and any other byte counts as standard.
+impl From<u8> for DeckKind {
+    ghost from_gives = { λ b deck. deck ≡ deck_of_byte b };
+
+    fn from(b: u8) -> DeckKind {
         match b {
             0 => DeckKind::TwoColour,
             _ => DeckKind::Standard,
         }
     }
+}
 
+impl fmt::Display for DeckKind {
+    fn fmt<W: fmt::Write>(&self, f: &mut fmt::Formatter<W>) -> fmt::Result {
+        f.write_str(match self {
+            DeckKind::TwoColour => "two-colour deck",
+            DeckKind::Standard => "standard deck",
+        })
+    }
+}
+
+// A head in words.
+impl fmt::Display for Head {
+    fn fmt<W: fmt::Write>(&self, f: &mut fmt::Formatter<W>) -> fmt::Result {
+        let Head {
+            deck,
+            cards,
+            players,
+            function,
+            output,
+        } = self;
+        write!(
+            f,
+            "{deck}, {cards} cards, {players} players, function {function:02X}, {output}"
+        )
+    }
+}
+
+impl DeckKind {
     // The lowest mark that a card of the deck may show.
     pub fn lowest_mark(&self) -> u8
         ensures { result ≡ lowest_mark self.now }
@@ -87,7 +127,7 @@ impl DeckKind {
     }
 }
 
-// The deck that a head names.
+// The deck that a head names. Each call asks the deck of that name: behind a `dyn Deck` what it means would not be known.
 impl Deck for DeckKind {
     ghost means = { deck_meaning };
 

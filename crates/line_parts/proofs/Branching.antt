@@ -1,10 +1,12 @@
 -- The images of a permute's places, and the branch with given marks.
-use Rattle.std.proofs.Common.{◌≡◌, ℕ, suc, pred, ◌+◌, ◌-◌, ◌<◌, ◌≤◌, Bool, true, false, cond, List, map, length, get_or, take, drop, Some, None, sym, ap, ◌∙◌, add-one, sub-one, arith}
-use native.Mathlib.Nat.{sub-zero}
+use Rattle.std.proofs.Common.{◌≡◌, ℕ, pred, ◌-◌, ◌<◌, ◌≤◌, Bool, true, false, cond, List, [], ◌∷◌, map, length, get_or, Some, None, Option, sym, refl, ap, ◌∙◌, sub-one, arith}
+use Rattle.std.specs.List.{find}
+use Rattle.std.specs.Option.{option_map, MatchOption, IsSomeAnd}
 use Rattle.std.proofs.lemmas.List.{get_or-map, get_or_past, length-map}
 use Rattle.protocol.specs.Machine.{same, target}
-use Rattle.sheet.specs.Scripts.{branches_of}
-use Rattle.sheet.specs.Chunks.{branches_step, branches_none}
+use Rattle.script.specs.Model.{Branch}
+use Rattle.sheet.specs.Branching.{branch_view}
+use Rattle.sheet.specs.declared.branches.Branch as code
 
 pub image_there : (places : List ℕ) (s x : ℕ) → s < length places → x ≡ get_or places s 0 - 1 → x ≡ get_or (map pred places) s s
 image_there places s x h e = e ∙ sub-one (get_or places s 0) ∙ sym (get_or-map pred places s 0 s h)
@@ -12,20 +14,19 @@ image_there places s x h e = e ∙ sub-one (get_or places s 0) ∙ sym (get_or-m
 pub image_past : (places : List ℕ) (s : ℕ) → length places ≤ s → s ≡ get_or (map pred places) s s
 image_past places s h = sym (get_or_past (map pred places) s s (let e = length-map places pred in omega arith))
 
--- the first branch, or those after it
-module _ (t : ℕ) (rest marks : List ℕ) (h : t < length rest) where
-  first_branch : (b : Bool) → same (take t rest) marks ≡ b → target marks (branches_of t rest) ≡ cond b (Some (get_or rest t 0)) (target marks (branches_of t (drop (suc t) rest)))
-  first_branch b e =
-      ap (target marks) (branches_step t rest h)
-      ∙ ap (λ (u : Bool). cond u (Some (get_or rest t 0)) (target marks (branches_of t (drop (suc t) rest)))) e
+abbrev pub has_marks : List ℕ → Branch → Bool
+has_marks marks b = same b.marks marks
 
-  pub branch_found : (b : Bool) → b ≡ same (take (t - 0) rest) marks → b ≡ true → target marks (branches_of t rest) ≡ Some (get_or rest t 0)
-  branch_found b e f = first_branch true (ap (λ (k : ℕ). same (take k rest) marks) (sym (sub-zero t)) ∙ sym e ∙ f)
+pub target_is : (marks : List ℕ) (bs : List Branch) → option_map (λ b. b.target) (find (has_marks marks) bs) ≡ target marks bs
+target_is marks [] = refl
+target_is marks (b ∷ bs) =
+    elim (same b.marks marks) as (λ t. option_map (λ b. b.target) (cond t (Some b) (find (has_marks marks) bs)) ≡ cond t (Some b.target) (target marks bs)) [
+      | true ↦ refl
+      | false ↦ target_is marks bs
+    ]
 
-  pub branch_later : (b : Bool) → b ≡ same (take (t - 0) rest) marks → b ≡ false → (after : List ℕ) → after ≡ drop (t + 1) rest → target marks (branches_of t rest) ≡ target marks (branches_of t after)
-  branch_later b e f after g =
-      first_branch false (ap (λ (k : ℕ). same (take k rest) marks) (sym (sub-zero t)) ∙ sym e ∙ f)
-      ∙ ap (λ (xs : List ℕ). target marks (branches_of t xs)) (ap (λ (k : ℕ). drop k rest) (sym (add-one t)) ∙ sym g)
-
-pub branch_none : (t : ℕ) (rest marks : List ℕ) → length rest ≤ t → target marks (branches_of t rest) ≡ None
-branch_none t rest marks h = ap (target marks) (branches_none t rest h)
+-- the target of the branch that was found
+pub target_found : (o : Option code.Branch) (a : Option ℕ) (post : code.Branch → ℕ → Type 0) → MatchOption o (a ≡ None) (λ x. IsSomeAnd a (post x)) → ((x : code.Branch) (y : ℕ) → post x y → y ≡ x.target) → a ≡ option_map (λ b. b.target) (option_map branch_view o)
+target_found None a post h is = h
+target_found (Some x) None post h is = absurd h
+target_found (Some x) (Some y) post h is = ap (λ (n : ℕ). Some n) (is x y h)

@@ -4,45 +4,19 @@
 
 use anyhow::anyhow;
 use rows::row::Row;
-use sessions::call::{Answer, Call};
+use sessions::call::{Answer, Call, Reply};
 use sessions::fault::PlayFault;
 use sessions::play::play;
-use sessions::played::Played;
 use sheet::states::{CheckedScript, Sheet};
-use sheet_text::TextFault;
-use sheet_words::print::{print_lines, print_text_fault, print_verdict};
+use sheet_words::print::{print_lines, print_verdict};
 use std::io;
-use tree::certificate::Certificate;
-use tree_words::{certificate_words, print_faults, print_refusal};
+use tree_words::{CertificateWords, print_faults, print_refusal};
 
 mod answers;
 mod text;
 
-use answers::{answer_words, call_word, written_after};
-use text::{Slip, Text};
-
-fn print_slip(rt: &HostRuntime, row: usize, slip: Slip) -> io::Result<()> {
-    match slip {
-        Slip::Frame {
-            fault: TextFault::Character,
-        } => println!(rt;
-            "text line {row}: neither a frame in hexadecimal digits nor bench, record, lay, step, turn, finish or where"
-        ),
-        Slip::Frame { fault } => print_text_fault(rt, row, fault),
-        Slip::Number { most } => println!(rt;
-            "text line {row}: after this word stands one number from 0 to {most}"
-        ),
-        Slip::Alone => println!(rt; "text line {row}: this word stands alone"),
-        Slip::Late => println!(rt;
-            "text line {row}: the sheet, the bench and the record come before the first call"
-        ),
-    }
-}
-
-fn print_certificate(rt: &HostRuntime, players: u8, certificate: &Certificate) -> io::Result<()> {
-    let words = certificate_words(rt.alloc(), players, certificate)?;
-    println!(rt; "certificate: {words}")
-}
+use answers::AnswerWords;
+use text::Text;
 
 // Prints each call and its answer. The marks that a turn shows are the bytes that it writes to the record.
 fn print_answers(
@@ -51,37 +25,16 @@ fn print_answers(
     answers: &[Answer],
     record: &[u8],
 ) -> io::Result<()> {
-    let mut before = 0usize;
-    for (call, answer) in calls.iter().zip(answers.iter()) {
-        let word = call_word(call);
-        let after = written_after(before, answer);
+    let mut before = 0;
+    for (call, answer) in calls.iter().zip(answers) {
+        let after = match answer {
+            Ok(Reply::Turned { written, .. }) => *written,
+            _ => before,
+        };
         let shown = record.get(before..after).unwrap_or(&[]);
-        let words = answer_words(rt.alloc(), answer, shown)?;
-        println!(rt; "{word}: {words}")?;
+        let words = AnswerWords { answer, shown };
+        println!(rt; "{call}: {words}")?;
         before = after;
-    }
-    Ok(())
-}
-
-fn print_outcome(
-    rt: &HostRuntime,
-    players: u8,
-    calls: &[Call],
-    outcome: Result<Played, PlayFault>,
-    record: &[u8],
-) -> anyhow::Result<()> {
-    match outcome {
-        Ok(played) => {
-            print_certificate(rt, players, &played.certificate)?;
-            print_answers(rt, calls, played.answers.as_slice(), record)?;
-        }
-        Err(PlayFault::Uncertified { certificate }) => {
-            print_certificate(rt, players, &certificate)?;
-            print_faults(rt, &certificate)?;
-            println!(rt; "no table is opened, and no call is made")?;
-        }
-        Err(PlayFault::Unbuilt { fault }) => print_refusal(rt, &fault)?,
-        Err(PlayFault::Memory) => return Err(anyhow!("no memory")),
     }
     Ok(())
 }
@@ -96,6 +49,7 @@ fn play_script(
 ) -> anyhow::Result<()> {
     let heap = rt.alloc();
     let head = script.head();
+    let players = head.players;
     let bank = script.copied(heap)?;
     let mut rows = vec![in heap; Row::zero(); usize::from(bench)]?;
     let mut page = vec![in heap; 0u8; usize::from(record)]?;
@@ -108,7 +62,29 @@ fn play_script(
         page.as_mut_slice(),
         calls,
     );
-    print_outcome(rt, head.players, calls, outcome, page.as_slice())
+    match outcome {
+        Ok(played) => {
+            let certificate = &played.certificate;
+            let words = CertificateWords {
+                players,
+                certificate,
+            };
+            println!(rt; "certificate: {words}")?;
+            print_answers(rt, calls, played.answers.as_slice(), page.as_slice())?;
+        }
+        Err(PlayFault::Uncertified { certificate }) => {
+            let words = CertificateWords {
+                players,
+                certificate: &certificate,
+            };
+            println!(rt; "certificate: {words}")?;
+            print_faults(rt, &certificate)?;
+            println!(rt; "no table is opened, and no call is made")?;
+        }
+        Err(PlayFault::Unbuilt { fault }) => print_refusal(rt, &fault)?,
+        Err(PlayFault::Memory) => return Err(anyhow!("no memory")),
+    }
+    Ok(())
 }
 
 // Prints the sheet and its verdict, and plays it where it passes.
@@ -122,31 +98,23 @@ fn play_text(rt: &HostRuntime, text: Text) -> anyhow::Result<()> {
     print_lines(rt, sheet.as_slice())?;
     let bytes = sheet.clone()?;
     let sheet = Sheet::new(sheet);
-    match sheet.check() {
-        Err(fault) => print_verdict(rt, bytes.as_slice(), Err(fault))?,
-        Ok(()) => {
-            print_verdict(rt, bytes.as_slice(), Ok(()))?;
-            play_script(rt, sheet.into_checked(), bench, record, calls.as_slice())?;
-        }
+    let verdict = sheet.check();
+    print_verdict(rt, bytes.as_slice(), verdict)?;
+    if verdict.is_ok() {
+        play_script(rt, sheet.into_checked(), bench, record, calls.as_slice())?;
     }
     Ok(())
 }
 
-fn run(rt: &HostRuntime) -> anyhow::Result<()> {
+fn main(rt: HostRuntime) -> anyhow::Result<()> {
     let heap = rt.alloc();
     let mut text = Text::new(heap);
-    let mut row = 0usize;
-    for line in rt.lines(heap) {
+    for (row, line) in (1usize..).zip(rt.lines(heap)) {
         let line = line?;
-        row = row.saturating_add(1);
         if let Err(slip) = text.read_line(heap, line.as_str()) {
-            print_slip(rt, row, slip)?;
+            println!(rt; "text line {row}: {slip}")?;
             return Ok(());
         }
     }
-    play_text(rt, text)
-}
-
-fn main(rt: HostRuntime) -> anyhow::Result<()> {
-    run(&rt)
+    play_text(&rt, text)
 }

@@ -1,33 +1,23 @@
 // The text that the program reads: a sheet, and after it calls, one a line.
 use sessions::call::Call;
 use sheet_text::{TextFault, add_line};
-use std::alloc::{AllocFailed, Global};
+use std::alloc::Global;
+use std::str::{FromStr, SplitWhitespace};
+use thiserror::Error;
 
 // Why a line is not read.
-#[derive(Clone, Copy)]
+#[derive(Clone, Copy, Debug, Error)]
 pub enum Slip {
-    // It begins with no word of a call or a setting, and it is no frame.
-    Frame { fault: TextFault },
-    // One number from 0 to this one must follow.
+    #[error("neither a frame in hexadecimal digits nor bench, record, lay, step, turn, finish or where")]
+    Word,
+    #[error(transparent)]
+    Frame(#[from] TextFault),
+    #[error("after this word stands one number from 0 to {most}")]
     Number { most: u16 },
-    // Nothing may follow.
+    #[error("this word stands alone")]
     Alone,
-    // What stands before the calls comes after one.
+    #[error("the sheet, the bench and the record come before the first call")]
     Late,
-}
-
-impl From<TextFault> for Slip {
-    fn from(fault: TextFault) -> Slip {
-        Slip::Frame { fault }
-    }
-}
-
-impl<T: Drop> From<AllocFailed<T>> for Slip {
-    fn from(_e: AllocFailed<T>) -> Slip {
-        Slip::Frame {
-            fault: TextFault::Memory,
-        }
-    }
 }
 
 // The sheet's bytes, how many rows the bench has, how many bytes the record has, and the calls.
@@ -39,76 +29,22 @@ pub struct Text {
     pub calls: Vec<Call>,
 }
 
-// What a line asks for.
-#[derive(Clone, Copy)]
-enum Asked {
-    Nothing,
-    Frame,
-    Bench { rows: u16 },
-    Record { bytes: u16 },
-    Make { call: Call },
-}
-
-// The one word after the first; empty where there is none, or more than one.
-fn second_word(text: &str) -> &str {
-    let mut words = text.split_whitespace().skip(1);
+// The one number after a line's first word, which is to be at most `most`, the highest of its type.
+fn number<N: FromStr>(mut words: SplitWhitespace<'_>, most: u16) -> Result<N, Slip>
+where
+    N::Err: Drop,
+{
     match (words.next(), words.next()) {
-        (Some(word), None) => word,
-        _ => "",
-    }
-}
-
-// The one number after the first word.
-fn number(text: &str) -> Result<u16, Slip> {
-    match second_word(text).parse::<u16>() {
-        Ok(number) => Ok(number),
-        Err(_) => Err(Slip::Number { most: 65535 }),
-    }
-}
-
-// The one number after the first word, where it is a byte.
-fn byte(text: &str) -> Result<u8, Slip> {
-    match second_word(text).parse::<u8>() {
-        Ok(number) => Ok(number),
-        Err(_) => Err(Slip::Number { most: 255 }),
+        (Some(word), None) => word.parse().map_err(|_| Slip::Number { most }),
+        _ => Err(Slip::Number { most }),
     }
 }
 
 // The call, where its word stands alone.
-fn alone(text: &str, call: Call) -> Result<Asked, Slip> {
-    if text.split_whitespace().count() == 1 {
-        Ok(Asked::Make { call })
-    } else {
-        Err(Slip::Alone)
-    }
-}
-
-// What the first word asks for.
-fn parse_line(text: &str) -> Result<Asked, Slip> {
-    match text.split_whitespace().next().unwrap_or("") {
-        "" => Ok(Asked::Nothing),
-        "bench" => Ok(Asked::Bench {
-            rows: number(text)?,
-        }),
-        "record" => Ok(Asked::Record {
-            bytes: number(text)?,
-        }),
-        "lay" => {
-            let number = byte(text)?;
-            Ok(Asked::Make {
-                call: Call::Lay { number },
-            })
-        }
-        "step" => {
-            let draw = number(text)?;
-            Ok(Asked::Make {
-                call: Call::Step { draw },
-            })
-        }
-        "turn" => alone(text, Call::Turn),
-        "finish" => alone(text, Call::Finish),
-        "where" => alone(text, Call::Where),
-        _ => Ok(Asked::Frame),
+fn alone(mut words: SplitWhitespace<'_>, call: Call) -> Result<Call, Slip> {
+    match words.next() {
+        None => Ok(call),
+        Some(_) => Err(Slip::Alone),
     }
 }
 
@@ -125,30 +61,49 @@ impl Text {
 
     // Reads a line. What follows a '#' is passed over.
     pub fn read_line(&mut self, heap: Global, line: &str) -> Result<(), Slip> {
-        let text = match line.split_once('#') {
-            Some((text, _)) => text,
-            None => line,
+        let text = line.split_once('#').map_or(line, |(text, _)| text);
+        let mut words = text.split_whitespace();
+        let Some(word) = words.next() else {
+            return Ok(());
         };
-        match parse_line(text)? {
-            Asked::Nothing => Ok(()),
-            Asked::Make { call } => {
-                self.calls.push(call)?;
+        match word {
+            "lay" => self.call(Call::Lay {
+                number: number(words, 255)?,
+            }),
+            "step" => self.call(Call::Step {
+                draw: number(words, 65535)?,
+            }),
+            "turn" => self.call(alone(words, Call::Turn)?),
+            "finish" => self.call(alone(words, Call::Finish)?),
+            "where" => self.call(alone(words, Call::Where)?),
+            "bench" => {
+                let rows = number(words, 65535)?;
+                self.before_calls()?.bench = rows;
                 Ok(())
             }
-            before => self.set(heap, text, before),
+            "record" => {
+                let bytes = number(words, 65535)?;
+                self.before_calls()?.record = bytes;
+                Ok(())
+            }
+            _ => match add_line(heap, &mut self.before_calls()?.sheet, text.as_bytes()) {
+                Err(TextFault::Character) => Err(Slip::Word),
+                added => Ok(added?),
+            },
         }
     }
 
-    // Takes what stands before the calls.
-    fn set(&mut self, heap: Global, text: &str, asked: Asked) -> Result<(), Slip> {
-        if !self.calls.is_empty() {
-            return Err(Slip::Late);
-        }
-        match asked {
-            Asked::Bench { rows } => self.bench = rows,
-            Asked::Record { bytes } => self.record = bytes,
-            _ => add_line(heap, &mut self.sheet, text.as_bytes())?,
-        }
+    fn call(&mut self, call: Call) -> Result<(), Slip> {
+        self.calls.push(call).map_err(TextFault::from)?;
         Ok(())
+    }
+
+    // The text, where no call is read yet.
+    fn before_calls(&mut self) -> Result<&mut Text, Slip> {
+        if self.calls.is_empty() {
+            Ok(self)
+        } else {
+            Err(Slip::Late)
+        }
     }
 }

@@ -1,14 +1,16 @@
 // The dealings of a certified script for an input, each run on a table of its own.
 use anyhow::anyhow;
+use cards::deck::bit_of;
 use rows::row::Row;
-use sessions::call::{Answer, Call};
+use sessions::call::{Call, Reply};
 use sessions::fault::PlayFault;
 use sessions::play::play;
 use sheet::action::Action;
 use sheet::states::CheckedScript;
-use sheet_words::lines::codes;
-use std::alloc::{AllocError, Global};
+use spaced::Codes;
+use std::alloc::Global;
 use std::collections::BTreeMap;
+use std::fmt;
 
 // So many dealings of an input are run at most.
 const MOST: u32 = 4096;
@@ -20,133 +22,167 @@ struct Draw {
     total: u16,
 }
 
-// What the dealings of an input came to: how many there are, how many of them give 1, and how many show each trace.
+impl Draw {
+    // The draw after this one, where the shuffle has one.
+    fn next(self) -> Option<Draw> {
+        let number = self.number.checked_add(1)?;
+        (number < self.total).then_some(Draw { number, ..self })
+    }
+}
+
+// The list of draws after this one, where there is one: the last draw that has a next one gives way to it, and those
+// after it begin anew.
+fn next_list(mut draws: Vec<Draw>) -> Option<Vec<Draw>> {
+    let last = draws.iter().rposition(|draw| draw.next().is_some())?;
+    draws.truncate(last + 1);
+    let draw = draws.last_mut()?;
+    *draw = draw.next()?;
+    Some(draws)
+}
+
+// What a dealing came to: its list of draws, the output bit, and the marks that it shows.
+#[derive(Drop)]
+struct Dealt {
+    draws: Vec<Draw>,
+    output: u8,
+    trace: String,
+}
+
+// What the dealings of an input came to: the function's value there, how many dealings there are, how many of them give
+// 1, and how many show each trace.
 #[derive(Drop)]
 pub struct Seen {
-    pub dealings: u32,
-    pub ones: u32,
-    pub traces: BTreeMap<String, u32>,
+    value: u8,
+    dealings: u32,
+    ones: u32,
+    traces: BTreeMap<String, u32>,
 }
 
-// The draw with this index in the list. The list gets a draw 0 more where it ends there.
-fn draw_at(draws: &mut Vec<Draw>, index: usize, total: u16) -> Result<u16, AllocError> {
-    if let Some(draw) = draws.get(index) {
-        return Ok(draw.number);
-    }
-    draws.push(Draw { number: 0, total })?;
-    Ok(0)
-}
-
-// The call that a line wants, with the draw that comes next.
-fn wanted(action: Action, draws: &mut Vec<Draw>, used: &mut usize) -> Result<Call, AllocError> {
-    match action {
-        Action::Permute { .. } => Ok(Call::Step { draw: 0 }),
-        Action::Shuffle { total, .. } => {
-            let draw = draw_at(draws, *used, total)?;
-            *used = used.saturating_add(1);
-            Ok(Call::Step { draw })
+impl fmt::Display for Seen {
+    fn fmt<W: fmt::Write>(&self, f: &mut fmt::Formatter<W>) -> fmt::Result {
+        let Seen {
+            value,
+            dealings,
+            ones,
+            traces,
+        } = self;
+        let right = if *value == 0 { 0 } else { *dealings };
+        if *ones == right {
+            write!(f, "{dealings} dealings, each gives {value}")?;
+        } else {
+            write!(
+                f,
+                "{dealings} dealings, {ones} of them give 1, and the function's value is {value}"
+            )?;
         }
-        Action::Turn { .. } => Ok(Call::Turn),
-        _ => Ok(Call::Finish),
-    }
-}
-
-// Goes on to the next list of draws. Answers whether there is one.
-fn advance(draws: &mut Vec<Draw>) -> Result<bool, AllocError> {
-    for _ in 0..draws.len() {
-        if let Some(last) = draws.pop() {
-            let number = last.number.saturating_add(1);
-            if number < last.total {
-                draws.push(Draw {
-                    number,
-                    total: last.total,
-                })?;
-                return Ok(true);
-            }
+        let many = traces.len();
+        if many > 4 {
+            return write!(f, "; {many} traces");
         }
-    }
-    Ok(false)
-}
-
-// The last answer to the calls, made from the first one on a new table.
-fn last_answer(
-    heap: Global,
-    script: &CheckedScript,
-    bench: &mut [Row],
-    record: &mut [u8],
-    calls: &[Call],
-) -> anyhow::Result<Option<Answer>> {
-    let deck = script.head().deck;
-    match play(
-        heap,
-        script.copied(heap)?,
-        &deck,
-        script,
-        bench,
-        record,
-        calls,
-    ) {
-        Ok(played) => Ok(played.answers.last().copied()),
-        Err(PlayFault::Memory) => Err(anyhow!("no memory")),
-        Err(_) => Ok(None),
+        for (trace, count) in traces {
+            write!(f, ";{trace} in {count}")?;
+        }
+        Ok(())
     }
 }
 
-// Runs the list of draws, which grows by a 0 for each further shuffle. Answers the output bit and how many bytes of the
-// record are written.
-fn deal(
-    heap: Global,
-    script: &CheckedScript,
-    bench: &mut [Row],
-    record: &mut [u8],
-    input: u8,
-    draws: &mut Vec<Draw>,
-) -> anyhow::Result<(u8, usize)> {
-    let mut calls = Vec::new(heap);
-    calls.push(Call::Lay { number: input })?;
-    let mut used = 0usize;
-    let mut bytes = 0usize;
-    for _ in 0..64 {
-        let line = match last_answer(heap, script, bench, record, calls.as_slice())? {
-            Some(Answer::Began { line }) => line,
-            Some(Answer::Stepped { line }) => line,
-            Some(Answer::Turned { line, written }) => {
-                bytes = written;
-                line
-            }
-            Some(Answer::Finished { output }) => return Ok((output, bytes)),
-            _ => return Err(anyhow!("a call of a dealing is refused")),
+// A certified script, and the bench and the record of its tables.
+#[derive(Drop)]
+pub struct Dealer<'a> {
+    pub heap: Global,
+    pub script: &'a CheckedScript,
+    pub bench: Vec<Row>,
+    pub record: Vec<u8>,
+}
+
+impl Dealer<'_> {
+    // The reply to the last of the calls, made from the first one on a new table.
+    fn last_reply(&mut self, calls: &[Call]) -> anyhow::Result<Reply> {
+        let script = self.script;
+        let copy = script.copied(self.heap)?;
+        let deck = script.head().deck;
+        let answer = match play(
+            self.heap,
+            copy,
+            &deck,
+            script,
+            self.bench.as_mut_slice(),
+            self.record.as_mut_slice(),
+            calls,
+        ) {
+            Ok(played) => played.answers.last().copied(),
+            Err(PlayFault::Memory) => return Err(anyhow!("no memory")),
+            Err(_) => None,
         };
-        let call = wanted(script.action(line), draws, &mut used)?;
-        calls.push(call)?;
-    }
-    Err(anyhow!("a dealing does not end"))
-}
-
-// Runs every dealing of the input.
-pub fn deal_all(
-    heap: Global,
-    script: &CheckedScript,
-    bench: &mut [Row],
-    record: &mut [u8],
-    input: u8,
-) -> anyhow::Result<Seen> {
-    let mut seen = Seen {
-        dealings: 0,
-        ones: 0,
-        traces: BTreeMap::new(heap),
-    };
-    let mut draws = Vec::new(heap);
-    for _ in 0..MOST {
-        let (output, bytes) = deal(heap, script, bench, record, input, &mut draws)?;
-        seen.dealings = seen.dealings.saturating_add(1);
-        seen.ones = seen.ones.saturating_add(u32::from(output));
-        let trace = codes(heap, record.get(0..bytes).unwrap_or(&[]))?;
-        let count = seen.traces.entry(trace)?.or_insert(0);
-        *count = count.saturating_add(1);
-        if !advance(&mut draws)? {
-            return Ok(seen);
+        match answer {
+            Some(Ok(reply)) => Ok(reply),
+            _ => Err(anyhow!("a call of a dealing is refused")),
         }
     }
-    Err(anyhow!("an input has too many dealings"))
+
+    // Runs the list of draws, which grows by a 0 for each further shuffle.
+    fn deal(&mut self, input: u8, draws: Vec<Draw>) -> anyhow::Result<Dealt> {
+        let mut earlier = draws.into_iter();
+        let mut draws = Vec::new(self.heap);
+        let mut calls = Vec::new(self.heap);
+        calls.push(Call::Lay { number: input })?;
+        let mut written = 0;
+        for _ in 0..64 {
+            let line = match self.last_reply(calls.as_slice())? {
+                Reply::Began { line } | Reply::Stepped { line } => line,
+                Reply::Turned {
+                    line,
+                    written: bytes,
+                } => {
+                    written = bytes;
+                    line
+                }
+                Reply::Finished { output } => {
+                    let shown = self.record.get(..written).unwrap_or(&[]);
+                    let trace = Codes(shown).to_string(self.heap)?;
+                    return Ok(Dealt {
+                        draws,
+                        output,
+                        trace,
+                    });
+                }
+                Reply::Stands { .. } => return Err(anyhow!("a call of a dealing is refused")),
+            };
+            let call = match self.script.action(line) {
+                Action::Permute { .. } => Call::Step { draw: 0 },
+                Action::Shuffle { total, .. } => {
+                    let draw = earlier.next().unwrap_or(Draw { number: 0, total });
+                    draws.push(draw)?;
+                    Call::Step { draw: draw.number }
+                }
+                Action::Turn { .. } => Call::Turn,
+                Action::Committed { .. } | Action::Open { .. } | Action::Nothing => Call::Finish,
+            };
+            calls.push(call)?;
+        }
+        Err(anyhow!("a dealing does not end"))
+    }
+
+    // Runs every dealing of the input.
+    pub fn deal_all(&mut self, input: u8) -> anyhow::Result<Seen> {
+        let mut seen = Seen {
+            value: bit_of(self.script.head().function, input % 8),
+            dealings: 0,
+            ones: 0,
+            traces: BTreeMap::new(self.heap),
+        };
+        let mut draws = Vec::new(self.heap);
+        for _ in 0..MOST {
+            let dealt = self.deal(input, draws)?;
+            seen.dealings = seen.dealings.saturating_add(1);
+            seen.ones = seen.ones.saturating_add(u32::from(dealt.output));
+            let count = seen.traces.entry(dealt.trace)?.or_insert(0);
+            *count = count.saturating_add(1);
+            draws = match next_list(dealt.draws) {
+                Some(draws) => draws,
+                None => return Ok(seen),
+            };
+        }
+        Err(anyhow!("an input has too many dealings"))
+    }
 }

@@ -3,85 +3,49 @@
 #![tactic(auto)]
 
 use certifier::certifying::certify;
-use heads::head::Head;
 use rows::row::Row;
+use script::fault::Refused;
+use script::inputs::count_inputs;
 use sheet::states::{CheckedScript, Sheet};
 use sheet_text::add_line;
 use sheet_words::print::{print_text_fault, print_verdict};
-use std::alloc::{AllocError, Global};
 use std::fs;
-use tree_words::{certificate_words, count_inputs, refusal_words};
+use tree_words::CertificateWords;
 
 mod dealings;
 
-use dealings::{Seen, deal_all};
-
-// The traces with the number of dealings that show each, where there are few.
-fn trace_words(heap: Global, seen: &Seen) -> Result<String, AllocError> {
-    let mut text = String::new(heap);
-    if seen.traces.len() > 4 {
-        let many = seen.traces.len();
-        return format!(in heap; "; {many} traces");
-    }
-    for (trace, count) in seen.traces.iter() {
-        let word = format!(in heap; ";{trace} in {count}")?;
-        text.push_str(word.as_str())?;
-    }
-    Ok(text)
-}
-
-// What the dealings of an input give, by the bit that the function has there.
-fn output_words(heap: Global, seen: &Seen, value: u8) -> Result<String, AllocError> {
-    let dealings = seen.dealings;
-    let ones = seen.ones;
-    let right = if value == 0 {
-        ones == 0
-    } else {
-        ones == dealings
-    };
-    if right {
-        format!(in heap; "{dealings} dealings, each gives {value}")
-    } else {
-        format!(in heap;
-            "{dealings} dealings, {ones} of them give 1, and the function's value is {value}"
-        )
-    }
-}
+use dealings::Dealer;
 
 // Runs every dealing of every input.
-fn print_dealings(
-    rt: &HostRuntime,
-    script: &CheckedScript,
-    head: Head,
-    bench: &mut [Row],
-) -> anyhow::Result<()> {
+fn print_dealings(rt: &HostRuntime, script: &CheckedScript, bench: Vec<Row>) -> anyhow::Result<()> {
     let heap = rt.alloc();
-    let mut record = vec![in heap; 0u8; 744]?;
-    for input in 0..count_inputs(head.players) {
-        let seen = deal_all(heap, script, bench, record.as_mut_slice(), input)?;
-        let value = (head.function >> (input % 8)) % 2;
-        let output = output_words(heap, &seen, value)?;
-        let traces = trace_words(heap, &seen)?;
-        println!(rt; "  input {input}: {output}{traces}")?;
+    let record = vec![in heap; 0u8; 744]?;
+    let mut dealer = Dealer {
+        heap,
+        script,
+        bench,
+        record,
+    };
+    for input in 0..count_inputs(script.head().players) {
+        let seen = dealer.deal_all(input)?;
+        println!(rt; "  input {input}: {seen}")?;
     }
     Ok(())
 }
 
 // Certifies the script, and runs its dealings where it is certified.
 fn print_script(rt: &HostRuntime, script: &CheckedScript) -> anyhow::Result<()> {
-    let heap = rt.alloc();
     let head = script.head();
-    let mut bench = vec![in heap; Row::zero(); 512]?;
+    let mut bench = vec![in rt.alloc(); Row::zero(); 512]?;
     match certify(script, &head.deck, script, bench.as_mut_slice()) {
-        Err(fault) => {
-            let words = refusal_words(heap, &fault)?;
-            println!(rt; "{words}")?;
-        }
+        Err(fault) => rt.println(Refused { fault: &fault })?,
         Ok(certificate) => {
-            let words = certificate_words(heap, head.players, &certificate)?;
-            println!(rt; "{words}")?;
+            rt.println(CertificateWords {
+                players: head.players,
+                certificate: &certificate,
+            })?;
             if certificate.is_faultless() {
-                print_dealings(rt, script, head, bench.as_mut_slice())?;
+                print_dealings(rt, script, bench)?;
             }
         }
     }
@@ -92,14 +56,13 @@ fn print_script(rt: &HostRuntime, script: &CheckedScript) -> anyhow::Result<()> 
 fn print_sheet(rt: &HostRuntime, text: &str) -> anyhow::Result<()> {
     let heap = rt.alloc();
     let mut bytes = Vec::new(heap);
-    for (row, line) in text.lines().enumerate() {
+    for (row, line) in (1usize..).zip(text.lines()) {
         if let Err(fault) = add_line(heap, &mut bytes, line.as_bytes()) {
-            print_text_fault(rt, row.saturating_add(1), fault)?;
+            print_text_fault(rt, row, fault)?;
             return Ok(());
         }
     }
-    let copy = bytes.clone()?;
-    let sheet = Sheet::new(copy);
+    let sheet = Sheet::new(bytes.clone()?);
     match sheet.check() {
         Err(fault) => print_verdict(rt, bytes.as_slice(), Err(fault))?,
         Ok(()) => print_script(rt, &sheet.into_checked())?,
@@ -107,16 +70,12 @@ fn print_sheet(rt: &HostRuntime, text: &str) -> anyhow::Result<()> {
     Ok(())
 }
 
-fn run(rt: &HostRuntime) -> anyhow::Result<()> {
-    let index = fs::read_to_string(rt, "index.txt")?;
+fn main(rt: HostRuntime) -> anyhow::Result<()> {
+    let index = fs::read_to_string(&rt, "index.txt")?;
     for name in index.as_str().lines() {
         print!(rt; "{name}: ")?;
-        let text = fs::read_to_string(rt, name)?;
-        print_sheet(rt, text.as_str())?;
+        let text = fs::read_to_string(&rt, name)?;
+        print_sheet(&rt, text.as_str())?;
     }
     Ok(())
-}
-
-fn main(rt: HostRuntime) -> anyhow::Result<()> {
-    run(&rt)
 }

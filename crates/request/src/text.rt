@@ -1,191 +1,145 @@
 // The text of a request: a shuffle by its layers, one a line, and a row of cards.
 ghost use Rattle.std.specs.Prelude.{◌≡◌, ◌<◌, true, false, is_some, if◌then◌else◌, vec_len, MatchResult, OnErr};
 
-use std::alloc::{AllocError, AllocFailed, Global};
-use std::fmt;
+use std::alloc::{AllocError, Global};
+use std::str::FromStr;
+use thiserror::Error;
 
 // What is wrong with a line of the text.
-#[derive(Clone, Copy, PartialEq, Eq, Debug)]
+#[derive(Clone, Copy, PartialEq, Eq, Debug, Error)]
 pub enum Reason {
+    #[error("a line begins with cut, explicit, piles, places or row")]
     Word,
+    #[error("after the first word stand numbers from 0 to 255")]
     Number,
+    #[error("cut and piles take one number, explicit at least one, places and row 1 to 12")]
     Count,
+    #[error("this layer stands already: the text has one of each")]
     Again,
+    #[error("first comes cut or explicit, then piles, then places, and last the row")]
     Order,
+    #[error("a card is a number from 0 to 15")]
     Card,
 }
 
-impl fmt::Display for Reason {
-    fn fmt<W: fmt::Write>(&self, f: &mut fmt::Formatter<W>) -> fmt::Result {
-        match self {
-            Reason::Word => write!(f, "a line begins with cut, explicit, piles, places or row"),
-            Reason::Number => write!(f, "after the first word stand numbers from 0 to 255"),
-            Reason::Count => write!(
-                f,
-                "cut and piles take one number, explicit at least one, places and row 1 to 12"
-            ),
-            Reason::Again => write!(f, "this layer stands already: the text has one of each"),
-            Reason::Order => write!(
-                f,
-                "first comes cut or explicit, then piles, then places, and last the row"
-            ),
-            Reason::Card => write!(f, "a card is a number from 0 to 15"),
-        }
-    }
-}
-
 // Why the text is not read: a line that is wrong, what the text lacks at its end, or want of memory.
-#[derive(Clone, Copy, PartialEq, Eq, Debug)]
+#[derive(Clone, Copy, PartialEq, Eq, Debug, Error)]
 pub enum TextFault {
+    #[error("line {0}: {1}")]
     Line(usize, Reason),
+    #[error("the text names no shuffle: begin with a line such as 'cut 5'")]
     NoShuffle,
+    #[error("the text has no row: end with a line such as 'row 0 1 1 0'")]
     NoRow,
-    Memory,
-}
-
-impl fmt::Display for TextFault {
-    fn fmt<W: fmt::Write>(&self, f: &mut fmt::Formatter<W>) -> fmt::Result {
-        match self {
-            TextFault::Line(line, reason) => write!(f, "line {line}: {reason}"),
-            TextFault::NoShuffle => write!(
-                f,
-                "the text names no shuffle: begin with a line such as 'cut 5'"
-            ),
-            TextFault::NoRow => write!(
-                f,
-                "the text has no row: end with a line such as 'row 0 1 1 0'"
-            ),
-            TextFault::Memory => write!(f, "there is not enough memory"),
-        }
-    }
-}
-
-impl From<AllocError> for TextFault {
-    fn from(_e: AllocError) -> TextFault {
-        TextFault::Memory
-    }
-}
-
-impl<T: Drop> From<AllocFailed<T>> for TextFault {
-    fn from(_e: AllocFailed<T>) -> TextFault {
-        TextFault::Memory
-    }
+    #[error("there is not enough memory")]
+    Memory(#[from(alloc)] AllocError),
 }
 
 // What a line of the text gives. Each is later in the text than the one above it.
 #[derive(Clone, Copy, PartialEq, Eq, Debug)]
 pub enum Part {
-    Cut = 0,
-    Explicit = 1,
-    Piles = 2,
-    Places = 3,
-    Row = 4,
+    Cut,
+    Explicit,
+    Piles,
+    Places,
+    Row,
 }
 
-// What was asked: the base of the shuffle, the numbers of each layer, and the row. A layer that was left out has no
-// numbers.
+// The part that a line's first word names.
+impl FromStr for Part {
+    type Err = Reason;
+
+    fn from_str(word: &str) -> Result<Part, Reason> {
+        match word {
+            "cut" => Ok(Part::Cut),
+            "explicit" => Ok(Part::Explicit),
+            "piles" => Ok(Part::Piles),
+            "places" => Ok(Part::Places),
+            "row" => Ok(Part::Row),
+            _ => Err(Reason::Word),
+        }
+    }
+}
+
+// The base of a shuffle: a cut, or explicit permutations of the slots, each after its weight.
+#[derive(Drop, Debug)]
+pub enum Base {
+    Cut { slots: u8 },
+    Explicit { slots: u8, entries: Vec<u8> },
+}
+
+// What was asked: the base of the shuffle, its other layers, and the row. A layer that was left out is none or empty.
 #[derive(Drop, Debug)]
 pub struct Request {
-    pub base: Option<Part>,
-    pub numbers: Vec<u8>,
-    pub piles: Vec<u8>,
+    pub base: Option<Base>,
+    pub piles: Option<u8>,
     pub places: Vec<u8>,
     pub row: Vec<u8>,
 }
 
-// The part that a word names.
-fn part_of(word: &str) -> Option<Part> {
-    match word {
-        "cut" => Some(Part::Cut),
-        "explicit" => Some(Part::Explicit),
-        "piles" => Some(Part::Piles),
-        "places" => Some(Part::Places),
-        "row" => Some(Part::Row),
-        _ => None,
-    }
-}
-
-// Whether a part may have so many numbers.
-fn may_count(part: Part, count: usize) -> bool {
-    match part {
-        Part::Cut | Part::Piles => count == 1,
-        Part::Explicit => count >= 1,
-        Part::Places | Part::Row => count >= 1 && count <= 12,
-    }
-}
-
-// The numbers of a line after its first word.
-fn numbers(heap: Global, line: usize, text: &str) -> Result<Vec<u8>, TextFault> {
-    let mut list = Vec::new(heap);
-    for word in text.split_whitespace().skip(1) {
-        match word.parse::<u8>() {
-            Ok(n) => list.push(n)?,
-            Err(_) => return Err(TextFault::Line(line, Reason::Number)),
-        }
-    }
-    Ok(list)
-}
-
-// Whether each number of the list is a card, 0 to 15.
-fn are_cards(list: &[u8]) -> bool {
-    for x in list {
-        if *x > 15 {
-            return false;
-        }
-    }
-    true
-}
-
 impl Request {
     pub fn new(heap: Global) -> Request
-        ensures base { is_some result.base ≡ false }
-        ensures lists { (vec_len result.numbers ≡ 0) × (vec_len result.piles ≡ 0) × (vec_len result.places ≡ 0) × (vec_len result.row ≡ 0) }
+        ensures layers { (is_some result.base ≡ false) × (is_some result.piles ≡ false) }
+        ensures lists { (vec_len result.places ≡ 0) × (vec_len result.row ≡ 0) }
     {
         Request {
             base: None,
-            numbers: Vec::new(heap),
-            piles: Vec::new(heap),
+            piles: None,
             places: Vec::new(heap),
             row: Vec::new(heap),
         }
     }
 
-    // Whether the part may come now: after the parts before it, and not twice.
-    fn may_come(&self, part: Part) -> Result<(), Reason> {
-        let again = match part {
+    // Whether a line of the text gave the part.
+    fn has(&self, part: Part) -> bool {
+        match part {
             Part::Cut | Part::Explicit => self.base.is_some(),
-            Part::Piles => !self.piles.is_empty(),
+            Part::Piles => self.piles.is_some(),
             Part::Places => !self.places.is_empty(),
             Part::Row => !self.row.is_empty(),
+        }
+    }
+
+    // Whether the part may come now: after the parts before it, and not twice.
+    fn may_come(&self, part: Part) -> Result<(), Reason> {
+        let in_order = match part {
+            Part::Cut | Part::Explicit => !self.has(Part::Row),
+            Part::Piles => self.base.is_some() && !self.has(Part::Places) && !self.has(Part::Row),
+            Part::Places | Part::Row => self.base.is_some() && !self.has(Part::Row),
         };
-        let early = match part {
-            Part::Cut | Part::Explicit => false,
-            Part::Piles | Part::Places | Part::Row => self.base.is_none(),
-        };
-        let late = match part {
-            Part::Piles => !self.places.is_empty() || !self.row.is_empty(),
-            _ => !self.row.is_empty(),
-        };
-        if again {
+        if self.has(part) {
             Err(Reason::Again)
-        } else if early || late {
+        } else if !in_order {
             Err(Reason::Order)
         } else {
             Ok(())
         }
     }
 
-    // Takes the numbers of a part that may come.
-    fn keep(&mut self, part: Part, list: Vec<u8>) {
-        match part {
-            Part::Cut | Part::Explicit => {
-                self.base = Some(part);
-                self.numbers = list;
+    // Takes the numbers of a part that may come, where it may have them.
+    fn keep(&mut self, part: Part, mut numbers: Vec<u8>) -> Result<(), Reason>
+        ensures { OnErr result (self.new ≡ self.old) }
+    {
+        match (part, numbers.as_slice()) {
+            (Part::Cut, [slots]) => self.base = Some(Base::Cut { slots: *slots }),
+            (Part::Explicit, [_, ..]) => {
+                let slots = numbers.remove(0);
+                self.base = Some(Base::Explicit {
+                    slots,
+                    entries: numbers,
+                });
             }
-            Part::Piles => self.piles = list,
-            Part::Places => self.places = list,
-            Part::Row => self.row = list,
+            (Part::Piles, [size]) => self.piles = Some(*size),
+            (Part::Places, [_, others @ ..]) if others.len() < 12 => self.places = numbers,
+            (Part::Row, [_, others @ ..]) if others.len() < 12 => {
+                if numbers.iter().any(|card| *card > 15) {
+                    return Err(Reason::Card);
+                }
+                self.row = numbers;
+            }
+            _ => return Err(Reason::Count),
         }
+        Ok(())
     }
 
     // Reads one line, counted from 1. An empty line and one that begins with '#' say nothing.
@@ -193,28 +147,20 @@ impl Request {
     pub fn read_line(&mut self, heap: Global, line: usize, text: &str) -> Result<(), TextFault>
         ensures { OnErr result (self.new ≡ self.old) }
     {
-        let Some(word) = text.split_whitespace().next() else {
+        let mut words = text.split_whitespace();
+        let Some(word) = words.next() else {
             return Ok(());
         };
-        if word.as_bytes().first().copied() == Some(b'#') {
+        if word.starts_with('#') {
             return Ok(());
         }
-        let part = match part_of(word) {
-            Some(part) => part,
-            None => return Err(TextFault::Line(line, Reason::Word)),
-        };
-        if let Err(reason) = self.may_come(part) {
-            return Err(TextFault::Line(line, reason));
-        }
-        let list = numbers(heap, line, text)?;
-        if !may_count(part, list.len()) {
-            return Err(TextFault::Line(line, Reason::Count));
-        }
-        if part == Part::Row && !are_cards(list.as_slice()) {
-            return Err(TextFault::Line(line, Reason::Card));
-        }
-        self.keep(part, list);
-        Ok(())
+        let at_line = |reason| TextFault::Line(line, reason);
+        let part = word.parse::<Part>().map_err(at_line)?;
+        self.may_come(part).map_err(at_line)?;
+        let numbers = words
+            .map(|word| word.parse::<u8>().map_err(|_| at_line(Reason::Number)))
+            .try_collect(heap)?;
+        self.keep(part, numbers).map_err(at_line)
     }
 
     // Whether the text named a shuffle and a row.

@@ -1,61 +1,17 @@
 -- Lists of marks: when two are the same, and dictionary order.
-use Rattle.std.proofs.Common.{◌≡◌, ℕ, ◌+◌, ◌-◌, ◌<◌, ◌≤◌, Bool, true, false, ◌&&◌, ◌||◌, eqb, ltb, ◌⊎◌, List, [], ◌∷◌, length, get_or, take, drop, sym, refl, ap, ◌∙◌, subst, inl, inr, arith}
-use Rattle.std.proofs.lemmas.List.{drop_more, drop_all, ext_get_or, length-take, length-map, get_or-take, get_or-map}
-use Rattle.std.proofs.lemmas.Bool.{lt-ltb, le-ltb, eq-eqb, ne_eqb, eqb-true, cases_lt, cases_Bool, cases_order, false≢true, both_ways}
-use Rattle.protocol.specs.Machine.{same, card_at, marks_at}
+use Rattle.std.proofs.Common.{◌≡◌, ℕ, ◌+◌, ◌<◌, Bool, true, false, ◌&&◌, eqb, ltb, ◌⊎◌, List, [], ◌∷◌, length, sym, refl, ap, ◌∙◌, subst, inl, inr, arith}
+use Rattle.std.proofs.lemmas.Bool.{lt-ltb, le-ltb, eq-eqb, ne_eqb, eqb-true, cases_Bool, cases_order, false≢true, both_ways}
+use lib.Pointwise.{pointwise}
+use Rattle.protocol.specs.Machine.{same}
 use Rattle.protocol.specs.States.{before}
 
-module _ (a b : List ℕ) (i : ℕ) (l : i < length a) (k : i < length b) where
-  x : ℕ
-  x = get_or a i 0
-
-  y : ℕ
-  y = get_or b i 0
-
-  before_at : before (drop i a) (drop i b) ≡ (ltb (get_or a i 0) (get_or b i 0) || (eqb (get_or a i 0) (get_or b i 0) && before (drop (i + 1) a) (drop (i + 1) b)))
-  before_at = ap (λ (xs : List ℕ). before xs (drop i b)) (drop_more a i 0 l) ∙ ap (λ (ys : List ℕ). before (get_or a i 0 ∷ drop (i + 1) a) ys) (drop_more b i 0 k)
-
-  same_at : same (drop i a) (drop i b) ≡ (eqb (get_or a i 0) (get_or b i 0) && same (drop (i + 1) a) (drop (i + 1) b))
-  same_at = ap (λ (xs : List ℕ). same xs (drop i b)) (drop_more a i 0 l) ∙ ap (λ (ys : List ℕ). same (get_or a i 0 ∷ drop (i + 1) a) ys) (drop_more b i 0 k)
-
-  pub before_yes : get_or a i 0 < get_or b i 0 → true ≡ before (drop i a) (drop i b)
-  before_yes h = sym (before_at ∙ rw (lt-ltb (get_or a i 0) (get_or b i 0) h))
-
-  pub before_no : get_or b i 0 < get_or a i 0 → false ≡ before (drop i a) (drop i b)
-  before_no h = sym (before_at ∙ rw (le-ltb (get_or a i 0) (get_or b i 0) (omega arith), ne_eqb (get_or a i 0) (get_or b i 0) (λ e. omega arith)))
-
-  pub before_on : get_or a i 0 ≡ get_or b i 0 → before (drop (i + 1) a) (drop (i + 1) b) ≡ before (drop i a) (drop i b)
-  before_on e = sym (before_at ∙ rw (le-ltb (get_or a i 0) (get_or b i 0) (omega arith), eq-eqb (get_or a i 0) (get_or b i 0) e))
-
-  pub same_no : (get_or a i 0 ≡ get_or b i 0 → ⊥) → false ≡ same (drop i a) (drop i b)
-  same_no ne = sym (same_at ∙ rw (ne_eqb (get_or a i 0) (get_or b i 0) ne))
-
-  pub same_on : get_or a i 0 ≡ get_or b i 0 → same (drop (i + 1) a) (drop (i + 1) b) ≡ same (drop i a) (drop i b)
-  same_on e = sym (same_at ∙ rw (eq-eqb (get_or a i 0) (get_or b i 0) e))
-
--- where one list ends, the shorter comes first
-pub before_end : (a b : List ℕ) (i : ℕ) → i ≤ length a → i ≤ length b → (length a ≤ i) ⊎ (length b ≤ i) → ltb (length a) (length b) ≡ before (drop i a) (drop i b)
-before_end a b i l k (inl h) =
-    elim (cases_lt i (length b)) [
-      | inl m ↦
-          lt-ltb (length a) (length b) (omega arith)
-          ∙ sym (ap (λ (xs : List ℕ). before xs (drop i b)) (drop_all i a h) ∙ ap (λ (ys : List ℕ). before [] ys) (drop_more b i 0 m))
-      | inr m ↦
-          le-ltb (length a) (length b) (omega arith)
-          ∙ sym (ap (λ (xs : List ℕ). before xs (drop i b)) (drop_all i a h) ∙ ap (λ (ys : List ℕ). before [] ys) (drop_all i b m))
-    ]
-before_end a b i l k (inr h) =
-    elim (cases_lt i (length a)) [
-      | inl m ↦
-          le-ltb (length a) (length b) (omega arith)
-          ∙ sym (ap (λ (xs : List ℕ). before xs (drop i b)) (drop_more a i 0 m) ∙ ap (λ (ys : List ℕ). before (get_or a i 0 ∷ drop (i + 1) a) ys) (drop_all i b h))
-      | inr m ↦
-          le-ltb (length a) (length b) (omega arith)
-          ∙ sym (ap (λ (xs : List ℕ). before xs (drop i b)) (drop_all i a m) ∙ ap (λ (ys : List ℕ). before [] ys) (drop_all i b h))
-    ]
-
-pub same_end : (a b : List ℕ) (i : ℕ) → length a ≤ i → length b ≤ i → true ≡ same (drop i a) (drop i b)
-same_end a b i l k = sym (ap (λ (xs : List ℕ). same xs (drop i b)) (drop_all i a l) ∙ ap (λ (ys : List ℕ). same [] ys) (drop_all i b k))
+-- where one list has ended, the one that was shorter comes first
+pub before_done : (a b : List ℕ) (m n : ℕ) → (length a ≡ 0) ⊎ (length b ≡ 0) → length a + n ≡ length b + m → ltb m n ≡ before a b
+before_done [] [] m n h e = le-ltb m n (omega arith)
+before_done [] (y ∷ ys) m n h e = lt-ltb m n (omega arith)
+before_done (x ∷ xs) [] m n h e = le-ltb m n (omega arith)
+before_done (x ∷ xs) (y ∷ ys) m n (inl h) e = absurd (omega arith)
+before_done (x ∷ xs) (y ∷ ys) m n (inr h) e = absurd (omega arith)
 
 pub same_true : (a b : List ℕ) → same a b ≡ true → a ≡ b
 same_true [] [] h = refl
@@ -67,16 +23,16 @@ same_true (x ∷ xs) (y ∷ ys) h = go (same_true xs ys) (eqb x y) refl h
     go ih true e f = ap (λ (z : ℕ). z ∷ xs) (eqb-true x y e) ∙ ap (λ (zs : List ℕ). y ∷ zs) (ih f)
     go ih false e f = absurd (false≢true f)
 
+-- what `==` of slices says
+pub same_is : (a b : List ℕ) → pointwise eqb a b ≡ same a b
+same_is [] [] = refl
+same_is [] (y ∷ ys) = refl
+same_is (x ∷ xs) [] = refl
+same_is (x ∷ xs) (y ∷ ys) = ap (λ (t : Bool). eqb x y && t) (same_is xs ys)
+
 pub same_refl : (a : List ℕ) → same a a ≡ true
 same_refl [] = refl
 same_refl (x ∷ xs) = rw (eq-eqb x x refl) (same_refl xs)
-
-pub same_longs : (a b : List ℕ) → (length a ≡ length b → ⊥) → false ≡ same a b
-same_longs a b ne =
-    elim (cases_Bool (same a b)) [
-      | inl t ↦ absurd (ne (ap length (same_true a b t)))
-      | inr f ↦ sym f
-    ]
 
 -- Dictionary order is a strict order of all lists: if neither of two comes before the other they are one.
 pub before_refl : (a : List ℕ) → before a a ≡ false
@@ -143,10 +99,3 @@ not_before_trans a b c h k =
             | inr u ↦ absurd (both_ways (before b c) k (subst (λ (m : List ℕ). before m c ≡ true) (before_neither a b h u) t))
           ]
     ]
-
--- the marks written one by one are those of the cards at the places
-pub marks_are : (places cards marks : List ℕ) → length places ≤ length marks → ((k : ℕ) → k < length places → get_or marks k 0 ≡ get_or cards (get_or places k 0 - 1) 0) → take (length places) marks ≡ marks_at places cards
-marks_are places cards marks l h =
-    let n : length (take (length places) marks) ≡ length places = length-take (length places) marks ∙ (let q : _ = l in omega arith) in
-    ext_get_or 0 (take (length places) marks) (marks_at places cards) (n ∙ sym (length-map places (card_at cards)))
-    (λ k m. let q : k < length places = omega arith in get_or-take (length places) marks k 0 q ∙ h k q ∙ sym (get_or-map (card_at cards) places k 0 0 q))

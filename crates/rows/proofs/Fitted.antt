@@ -2,7 +2,7 @@
 use Rattle.std.proofs.Common.{◌≡◌, ℕ, ◌<◌, Bool, true, false, cond, ◌&&◌, eqb, ltb, List, get_or, sym, refl, ap, ◌∙◌, zero-add}
 use mathlib.Core.Path.{fun_ext}
 use Rattle.std.proofs.lemmas.List.FromFn.{get_or-map-range_with_len}
-use Rattle.std.proofs.lemmas.Bool.{cond-false, cond-true}
+use Rattle.std.proofs.lemmas.Bool.{cond-false}
 use Rattle.cards.specs.Lists.{table}
 use Rattle.cards.specs.Shuffles.{ShuffleMeaning, image}
 use Rattle.protocol.specs.Machine.{Protocol, Mixing, shuffling, fitted}
@@ -19,11 +19,6 @@ image_apart n total m d s e =
 
 pub images_apart : (n total : ℕ) (m : ShuffleMeaning) (d : ℕ) → fit n total m ≡ false → table 12 (λ s. s) ≡ table 12 (image (fitted n total m) d)
 images_apart n total m d e = ap (λ (f : ℕ → ℕ). table 12 f) (fun_ext (λ s. sym (image_apart n total m d s e)))
-
-pub images_fit : (n total : ℕ) (m : ShuffleMeaning) (d : ℕ) → fit n total m ≡ true → table 12 (image m d) ≡ table 12 (image (fitted n total m) d)
-images_fit n total m d e =
-    let still : ShuffleMeaning = record { width = n; total = total; sends = λ d s. s } in
-    ap (λ (k : ShuffleMeaning). table 12 (image k d)) (sym (cond-true (fit n total m) m still e))
 
 -- a mixing with the images of a bank's shuffle
 abbrev pub of_bank : ℕ → ℕ → ShuffleMeaning → Mixing

@@ -17,9 +17,6 @@ module _ (test : Row → Bool) (rows : List code.Row) where
     pub here : rows_view (take len room) ≡ filter test (rows_view (take i rows))
     pub rest : drop len room ≡ drop len before
 
-  pub copied_none : (room : List code.Row) → Copied 0 0 room room
-  copied_none room = record { within = omega arith; long = refl; here = refl; rest = refl }
-
   more : (i : ℕ) → i < length rows → filter test (rows_view (take (i + 1) rows)) ≡ filter test (rows_view (take i rows)) ++ cond (test (row_view (get_or rows i past))) (row_view (get_or rows i past) ∷ []) []
   more i l = ap (filter test) (map_more row_view rows i past l) ∙ filter-append test (rows_view (take i rows)) (row_view (get_or rows i past) ∷ [])
 

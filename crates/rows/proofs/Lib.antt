@@ -11,4 +11,6 @@ pub mod Gathered
 pub mod Below
 pub mod Alike
 pub mod Wrongs
-pub mod Unpacked
+pub mod Showing
+pub mod Made
+pub mod Found

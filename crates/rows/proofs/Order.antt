@@ -1,7 +1,12 @@
 -- Runs of rows whose sequences ascend, and the place of a row in one.
 use Rattle.std.proofs.Common.{◌≡◌, ℕ, zero, suc, ◌+◌, ◌<◌, ◌≤◌, Bool, true, false, cond, ltb, List, [], ◌∷◌, length, get_or, set, refl, ap, inl, inr, add-zero, add-suc, arith}
+use denote.Param.Members.{Mut}
+use denote.Ref.{Bor}
+use Rattle.std.specs.Fn.{Called, ComputesKey}
 use Rattle.std.specs.List.{insert}
-use Rattle.std.proofs.lemmas.Bool.{lt-ltb, le-ltb, ltb-true, cases_eq}
+use Rattle.std.specs.List.Sorted.{IsPartitionedBy, IsPartitionPoint}
+use Rattle.std.proofs.lemmas.Bool.{lt-ltb, le-ltb, ltb-true, ltb-false, cases_eq}
+use Rattle.std.proofs.lemmas.List.Sorted.{IsNonDecreasingBy-from_default, IsPartitionedBy-ltb, IsPartitionPoint-from_clause}
 use Rattle.protocol.specs.Machine.{Mixing}
 use Rattle.protocol.specs.States.{Row, added, join, row_after, joined_after, mixed_by, Above, Ascending}
 use Rattle.rows.specs.declared.row.Row as code
@@ -28,6 +33,20 @@ rising_le ys h i j l m =
       | inl e ↦ let q : sequence_at ys i ≡ sequence_at ys j = ap (sequence_at ys) e in omega arith
       | inr ne ↦ let q = rising ys h i j (omega arith) m in omega arith
     ]
+
+-- the rows of the run below a sequence, and those from it on
+pub record Parted (run : List code.Row) (s i : ℕ) : Type 0 where
+  pub below : (k : ℕ) → k < i → sequence_at run k < s
+  pub above : (k : ℕ) → i ≤ k → k < length run → s ≤ sequence_at run k
+
+pub parted : {F : Type 0} {g : Mut F (Bor code.Row × Unit {0}) Bool} {f : F} (run : List code.Row) (s i : ℕ) → ((q : code.Row → Bool) → ComputesKey g q f → IsPartitionedBy q run → IsPartitionPoint (λ y. q y ≡ true) (λ y. q y ≡ false) run i) → Ascending (rows_view run) → ((a : Bor code.Row × Unit {0}) (r : Bool) (f' : F) → Called g f a r f' → (r ≡ ltb a.0.now.sequence s) × (f' ≡ f)) → Parted run s i
+parted run s i clause h test =
+    let first : code.Row = record { sequence = 0; weights = [] } in
+    let p = IsPartitionPoint-from_clause (λ y. ltb y.sequence s) run i clause (IsPartitionedBy-ltb (λ y. y.sequence) run s (IsNonDecreasingBy-from_default (λ y. y.sequence) run first (rising_le run h))) test in
+    record {
+      below = λ k l. ltb-true (sequence_at run k) s (p.0 k first (omega arith) l);
+      above = λ k l m. ltb-false (sequence_at run k) s (p.1 k first l m);
+    }
 
 -- the row stands nowhere in the run: it is put in
 pub join_new : (r : code.Row) (ys : List code.Row) (i : ℕ) → i ≤ length ys → ((k : ℕ) → k < i → sequence_at ys k < r.sequence) → (i < length ys → r.sequence < sequence_at ys i) → join (row_view r) (rows_view ys) ≡ rows_view (insert ys i r)

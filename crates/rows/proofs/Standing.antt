@@ -19,10 +19,6 @@ pub record Standing (len : ℕ) (room before : List code.Row) : Type 0 where
 pub view_length : (len : ℕ) (room : List code.Row) → len ≤ length room → length (rows_view (take len room)) ≡ len
 view_length len room h = length-map (take len room) row_view ∙ length-take-le len room h
 
--- nothing stands yet
-pub standing_none : (room : List code.Row) → Standing 0 room room
-standing_none room = record { within = omega arith; long = refl; ascending = tt; rest = refl }
-
 pub drop_same : (xs ys : List code.Row) (i j : ℕ) → i ≤ j → drop i xs ≡ drop i ys → drop j xs ≡ drop j ys
 drop_same xs ys i j l e =
     let k : i + (j - i) ≡ j = omega arith in

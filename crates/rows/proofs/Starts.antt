@@ -1,5 +1,5 @@
 -- The rows of the start state, one input after another.
-use Rattle.std.proofs.Common.{◌≡◌, ℕ, zero, suc, ◌+◌, ◌-◌, ◌*◌, ◌%◌, ◌^◌, ◌<◌, ◌≤◌, Bool, cond, eqb, ltb, List, length, get_or, set, replicate, sym, refl, ap, ◌∙◌, inl, inr, add-zero, add-suc, zero-add, add-one, arith}
+use Rattle.std.proofs.Common.{◌≡◌, ℕ, zero, suc, ◌+◌, ◌-◌, ◌^◌, min, ◌<◌, ◌≤◌, Bool, cond, eqb, ltb, List, length, get_or, set, replicate, sym, ap, ◌∙◌, inl, inr, add-zero, add-suc, zero-add, add-one, arith}
 use Rattle.std.proofs.lemmas.List.FromFn.{fill_by_all, get_or-map-range_with_len}
 use Rattle.std.proofs.lemmas.List.{length-set, get_or-set_same, get_or-set_other, get_or-replicate}
 use Rattle.std.proofs.lemmas.Bool.{cases_eq, eq-eqb, ne_eqb}
@@ -65,17 +65,20 @@ unit_total b i r S T l w s e =
     let k : cond (eqb b i) 1 0 + cond (ltb b i) 1 0 ≡ cond (ltb b (i + 1)) 1 0 = grind (arith, nat_tests) in
     omega arith
 
--- the number of inputs, as the code has it
-pub inputs_are : (k : ℕ) → k ≤ 3 → (1 * 2 ^ k) % 256 ≡ 2 ^ k
-inputs_are zero h = refl
-inputs_are (suc zero) h = refl
-inputs_are (suc (suc zero)) h = refl
-inputs_are (suc (suc (suc zero))) h = refl
-inputs_are (suc (suc (suc (suc k)))) h = absurd (omega arith)
-
 pub few_inputs : (k : ℕ) → k ≤ 3 → 2 ^ k ≤ 8
 few_inputs zero h = omega arith
 few_inputs (suc zero) h = omega arith
 few_inputs (suc (suc zero)) h = omega arith
 few_inputs (suc (suc (suc zero))) h = omega arith
 few_inputs (suc (suc (suc (suc k)))) h = absurd (omega arith)
+
+-- how many inputs up to three players have, as the code counts them
+pub record Counted (players n : ℕ) : Type 0 where
+  pub many : n ≡ 2 ^ players
+  pub few : n ≤ 8
+
+pub counted : (players n : ℕ) → players ≤ 3 → n ≡ 2 ^ min players 3 → Counted players n
+counted players n h e =
+    let m : n ≡ 2 ^ players = e ∙ ap (λ (k : ℕ). 2 ^ k) (let q : min players 3 ≡ players = omega arith in q) in
+    let f = few_inputs players h in
+    record { many = m; few = omega arith }

@@ -71,12 +71,3 @@ table_at f n k l = get_or-map-range_with_len f 0 n k k 0 l (zero-add k)
 
 pub table_same : (n : ℕ) (f g : ℕ → ℕ) → ((k : ℕ) → k < n → f k ≡ g k) → table n f ≡ table n g
 table_same n f g h = fill_by_all g (table n f) n 0 (length-map-range_with_len f 0 n) (λ k l. table_at f n k l ∙ h k l)
-
--- totals so far, and the weights of one row more
-pub totals_more : (rows : List code.Row) (i : ℕ) (d : code.Row) (sums new : List ℕ) → i < length rows → sums ≡ table 8 (λ b. total_of b (rows_view (take i rows))) → new ≡ added sums (get_or rows i d).weights → new ≡ table 8 (λ b. total_of b (rows_view (take (i + 1) rows)))
-totals_more rows i d sums new l e f =
-    f ∙ table_same 8 (λ b. get_or sums b 0 + get_or (get_or rows i d).weights b 0) (λ b. total_of b (rows_view (take (i + 1) rows)))
-    (λ b h.
-    let a : get_or sums b 0 ≡ total_of b (rows_view (take i rows)) = ap (λ (xs : List ℕ). get_or xs b 0) e ∙ table_at (λ c. total_of c (rows_view (take i rows))) 8 b h in
-    let m = total_more rows i d b l in
-    omega arith)

@@ -9,4 +9,5 @@ pub mod node;
 pub mod outcome;
 pub mod row;
 pub mod start;
+pub mod state;
 pub mod turn;

@@ -4,14 +4,16 @@ ghost use Rattle.cards.specs.Decks.{bit, bit_reading};
 ghost use Rattle.protocol.specs.Machine.{Protocol, action_at, given};
 ghost use Rattle.protocol.specs.States.{Row as StateRow, cards_of, total_of, totals, alike_under, any_below, leaks, same_reading, errs, first_input, wrongness};
 ghost use Rattle.rows.specs.Views.{row_view, rows_view, Small};
-ghost use Rattle.rows.specs.Nodes.{action_of, output_of, wrong_view, Computes};
+ghost use Rattle.rows.specs.Nodes.{action_of, output_of, wrong_view, first_stray, Computes};
 
 use crate::join::add;
+use crate::marks::card_at;
 use crate::outcome::{Outcome, Wrong};
 use crate::row::Row;
-use cards::deck::Deck;
+use cards::deck::{Deck, bit_of};
 use cards::reading::Reading;
-use cards::row::Row as Cards;
+use heads::head::{Head, Output};
+use script::inputs::count_inputs;
 
 // The weights added up for each input.
 pub fn totals(rows: &[Row]) -> [u64; 8]
@@ -25,51 +27,32 @@ pub fn totals(rows: &[Row]) -> [u64; 8]
     totals
 }
 
-// The function's value at the input.
-fn value(function: u8, input: u8) -> u8
-    requires { input < 8 }
-    ensures { result ≡ bit function input }
-{
-    (function >> input) % 2
-}
-
 // Whether two inputs must look alike: any two under committed output, those of equal value under open output.
-fn alike(function: u8, openly: bool, b: u8, c: u8) -> bool
+fn alike(head: &Head, b: u8, c: u8) -> bool
     requires { (b < 8) × (c < 8) }
-    ensures { result ≡ alike_under (output_of openly) (bit function b) (bit function c) }
+    ensures { result ≡ alike_under (output_of head.now.output) (bit head.now.function b) (bit head.now.function c) }
 {
-    if openly {
-        value(function, b) == value(function, c)
-    } else {
-        true
+    match head.output {
+        Output::Committed => true,
+        Output::Open => bit_of(head.function, b) == bit_of(head.function, c),
     }
 }
 
 // Whether some input that must look like b has another total.
-fn differs(inputs: u8, function: u8, openly: bool, sums: &[u64; 8], b: u8) -> bool
-    requires { (b < 8) × (inputs ≤ 8) }
-    ensures { result ≡ any_below inputs (λ c. alike_under (output_of openly) (bit function b) (bit function c) && not (slice_index sums.now b == slice_index sums.now c)) }
+fn differs(head: &Head, sums: &[u64; 8], b: u8) -> bool
+    requires { (b < 8) × (head.now.players ≤ 3) }
+    ensures { result ≡ any_below (2 ^ head.now.players) (λ c. alike_under (output_of head.now.output) (bit head.now.function b) (bit head.now.function c) && not (slice_index sums.now b == slice_index sums.now c)) }
 {
-    for c in 0..inputs {
-        if alike(function, openly, b, c) && sums[usize::from(b)] != sums[usize::from(c)] {
-            return true;
-        }
-    }
-    false
+    (0..count_inputs(head.players)).any(|c| alike(head, b, c)
+        && sums[usize::from(b)] != sums[usize::from(c)])
 }
 
 // Whether a node with these totals leaks: two inputs that must look alike have different totals.
-pub fn leaks(players: u8, function: u8, openly: bool, sums: &[u64; 8]) -> bool
-    requires { players ≤ 3 }
-    ensures { (p : Protocol) (rows : List StateRow) → Computes p players function → p.script.output ≡ output_of openly → sums.now ≡ totals rows → result ≡ leaks p rows }
+pub fn leaks(head: &Head, sums: &[u64; 8]) -> bool
+    requires { head.now.players ≤ 3 }
+    ensures { (p : Protocol) (rows : List StateRow) → Computes p head.now.players head.now.function → p.script.output ≡ output_of head.now.output → sums.now ≡ totals rows → result ≡ leaks p rows }
 {
-    let inputs = 1u8 << players;
-    for b in 0..inputs {
-        if differs(inputs, function, openly, sums, b) {
-            return true;
-        }
-    }
-    false
+    (0..count_inputs(head.players)).any(|b| differs(head, sums, b))
 }
 
 // What the row gives at the result line.
@@ -79,69 +62,40 @@ fn reading<D: Deck>(deck: &D, cards: u8, outcome: Outcome, row: &Row) -> Reading
 {
     match outcome {
         Outcome::Committed { left, right } => {
-            let row = Cards::unpack(cards, row.sequence).cards;
-            let left = row[usize::from(left.slot().number())];
-            let right = row[usize::from(right.slot().number())];
-            deck.read(left, right)
+            let cards = row.cards(cards).cards;
+            deck.read(card_at(cards, left), card_at(cards, right))
         }
-        Outcome::Opened { value } => {
-            if value == 0 {
-                Reading::Zero
-            } else {
-                Reading::One
-            }
-        }
+        Outcome::Opened { value } => Reading::of_bit(value),
     }
 }
 
-// Whether the reading is the bit.
-fn agrees(reading: Reading, value: u8) -> bool
-    ensures { result ≡ same_reading reading (bit_reading value) }
+// What is wrong in a row: the first input under which it has a positive weight and gives another reading than the
+// function's value.
+fn wrong_input<D: Deck>(deck: &D, head: &Head, outcome: Outcome, row: &Row) -> Option<Wrong>
+    requires cards { head.now.cards ≤ 12 }
+    requires players { head.now.players ≤ 3 }
+    ensures { wrong_view result ≡ first_stray head.now.function (2 ^ head.now.players) (given (D.Deck.means deck.now) (cards_of head.now.cards (row_view row.now)) (action_of outcome)) (row_view row.now) }
 {
-    match reading {
-        Reading::Zero => value == 0,
-        Reading::One => value != 0,
-        Reading::Neither => false,
-    }
-}
-
-// The first input under which the row has a positive weight and gives another reading than the function's value.
-fn wrong_input(players: u8, function: u8, reading: Reading, row: &Row) -> Option<Wrong>
-    requires { players ≤ 3 }
-    ensures { (p : Protocol) → Computes p players function → wrong_view result ≡ first_input p reading (row_view row.now) 0 (2 ^ players) }
-{
-    for input in 0..1u8 << players {
-        if row.weights[usize::from(input)] > 0 && !agrees(reading, value(function, input)) {
-            return Some(Wrong {
-                row: *row,
-                input,
-                reading,
-            });
-        }
-    }
-    None
+    let reading = reading(deck, head.cards, outcome, row);
+    (0..count_inputs(head.players))
+        .find(|input| {
+            row.weights[usize::from(*input)] > 0
+                && reading != Reading::of_bit(bit_of(head.function, *input))
+        })
+        .map(|input| Wrong {
+            row: *row,
+            input,
+            reading,
+        })
 }
 
 // What is wrong at a result line: the first row that gives a wrong reading under an input of positive weight, the first
 // such input, and the reading.
-pub fn first_wrong<D: Deck>(
-    deck: &D,
-    cards: u8,
-    players: u8,
-    function: u8,
-    outcome: Outcome,
-    rows: &[Row],
-) -> Option<Wrong>
-    requires cards { cards ≤ 12 }
-    requires players { players ≤ 3 }
-    ensures { (p : Protocol) (l : ℕ) → Computes p players function → p.script.cards ≡ cards → p.deck ≡ D.Deck.means deck.now → action_at p l ≡ action_of outcome → wrong_view result ≡ wrongness p l (rows_view rows.now) }
+pub fn first_wrong<D: Deck>(deck: &D, head: &Head, outcome: Outcome, rows: &[Row]) -> Option<Wrong>
+    requires cards { head.now.cards ≤ 12 }
+    requires players { head.now.players ≤ 3 }
+    ensures { (p : Protocol) (l : ℕ) → Computes p head.now.players head.now.function → p.script.cards ≡ head.now.cards → p.deck ≡ D.Deck.means deck.now → action_at p l ≡ action_of outcome → wrong_view result ≡ wrongness p l (rows_view rows.now) }
 {
-    for row in rows {
-        let reading = reading(deck, cards, outcome, row);
-        let found = wrong_input(players, function, reading, row);
-        if found.is_some() {
-            return found;
-        }
-    }
-    None
+    rows.iter()
+        .find_map(|row| wrong_input(deck, head, outcome, row))
 }

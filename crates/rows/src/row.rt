@@ -1,6 +1,9 @@
 // A row of a state.
-ghost use Rattle.std.specs.Prelude.{◌≡◌};
-ghost use Rattle.rows.specs.Views.{zero_row};
+ghost use Rattle.std.specs.Prelude.{◌≡◌, ◌≤◌};
+ghost use Rattle.protocol.specs.States.{cards_of};
+ghost use Rattle.rows.specs.Views.{row_view, zero_row};
+
+use cards::row::Row as Cards;
 
 // The sequence number of a row of cards, and a weight for each of the eight inputs: nine 64-bit numbers.
 #[derive(Clone, Copy)]
@@ -18,5 +21,13 @@ impl Row {
             sequence: 0,
             weights: [0; 8],
         }
+    }
+
+    // The cards of the row, in a state of so many cards.
+    pub fn cards(&self, number: u8) -> Cards
+        requires { number ≤ 12 }
+        ensures { result.cards ≡ cards_of number (row_view self.now) }
+    {
+        Cards::unpack(number, self.sequence)
     }
 }

@@ -9,17 +9,21 @@ use crate::join::join;
 use crate::row::Row;
 use cards::deck::Deck;
 use cards::row::Row as Cards;
+use script::inputs::count_inputs;
 
 // The cards that the layout lays for the input.
-fn lay<D: Deck>(deck: &D, codes: &[u8], input: u8) -> Cards
-    requires { length codes.now ≤ 12 }
+pub fn lay<D: Deck>(deck: &D, codes: &[u8], input: u8) -> Cards
     ensures { result.cards ≡ table 12 (λ s. (if nat_lt s (length codes.now) then (D.Deck.means deck.now).card (slice_index codes.now s) input else 0)) }
 {
-    let mut cards = [0u8; 12];
-    for s in 0..codes.len() {
-        cards[s] = deck.card(codes[s], input);
+    Cards {
+        cards: std::array::from_fn(|s| {
+            if s < codes.len() {
+                deck.card(codes[s], input)
+            } else {
+                0
+            }
+        }),
     }
-    Cards { cards }
 }
 
 // The sequence laid for the input, with weight 1 under it.
@@ -45,7 +49,7 @@ pub fn start<D: Deck>(deck: &D, players: u8, codes: &[u8], room: &mut [Row]) -> 
     ensures totals { (len b : ℕ) → result ≡ Some len → b < 8 → total_of b (rows_view (take len room.new)) ≡ (if nat_lt b (2 ^ players) then 1 else 0) }
 {
     let mut len = 0;
-    for input in 0..1u8 << players {
+    for input in 0..count_inputs(players) {
         let row = unit(deck, codes, input);
         len = join(room, len, &row)?;
     }

@@ -7,10 +7,10 @@ ghost use Rattle.rows.specs.Views.{rows_view, zero_row};
 
 use cards::deck::TwoColour;
 use rows::guard::Guard;
-use rows::mix::{permute, shuffle};
 use rows::node;
 use rows::row::Row;
 use rows::start::start;
+use rows::state::State;
 use shuffles::bank::Bank;
 
 mod tests;
@@ -19,12 +19,7 @@ mod tests;
 fn light(row: &Row) -> bool
     ensures { result ≡ true → (b : ℕ) → b < 8 → slice_index row.now.weights b ≤ 65535 }
 {
-    for b in 0..8 {
-        if row.weights[b] > 65535 {
-            return false;
-        }
-    }
-    true
+    row.weights.iter().all(|weight| *weight <= 65535)
 }
 
 // Whether there are at most 65,536 rows, with weights below 65,536.
@@ -46,7 +41,7 @@ fn permuted(cards: u8, images: [u8; 12], rows: &[Row], room: &mut [Row]) -> Opti
     if cards > 12 || !few(rows) {
         return None;
     }
-    permute(cards, images, rows, room)
+    State { cards, rows }.permute(images, room)
 }
 
 fn shuffled<B: Bank>(
@@ -59,7 +54,7 @@ fn shuffled<B: Bank>(
     if cards > 12 || !few(rows) {
         return None;
     }
-    shuffle(bank, 2, cards, total, rows, room)
+    State { cards, rows }.shuffle(bank, 2, total, room)
 }
 
 fn totalled(rows: &[Row]) -> Option<[u64; 8]> {

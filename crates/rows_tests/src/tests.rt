@@ -1,17 +1,21 @@
 // The tables.
+ghost use Rattle.std.specs.Prelude.{◌≡◌};
+
 #[cfg(test)]
 mod edges {
     use super::super::{permuted, shuffled, totalled};
     use cards::deck::TwoColour;
     use cards::place::Place;
     use cards::reading::Reading;
+    use heads::head::{DeckKind, Head, Output};
     use rows::guard::Guard;
     use rows::marks;
     use rows::node::{first_wrong, leaks};
     use rows::outcome::Outcome;
     use rows::row::Row;
     use rows::start::start;
-    use rows::turn::{gather, next_marks};
+    use rows::state::State;
+    use rows::turn::Turned;
     use shuffles::bank::Everywhere;
     use shuffles::cut::Cut;
     use std::process::Abort;
@@ -33,6 +37,20 @@ mod edges {
             weights[usize::from(input)] = weight;
         }
         Row { sequence, weights }
+    }
+
+    // two players with four cards of two colours
+    fn head(function: u8, output: Output) -> Head
+        ensures players { result.players ≡ 2 }
+        ensures cards { result.cards ≡ 4 }
+    {
+        Head {
+            deck: DeckKind::TwoColour,
+            cards: 4,
+            players: 2,
+            function,
+            output,
+        }
     }
 
     // the rows written are these sequences with these weights under input 0, and the row after them stands
@@ -230,10 +248,17 @@ mod edges {
             row(0x1001, 0, 3),
             row(0x1010, 0, 4),
         ];
-        let first = next_marks(4, &[1, 2], &rows, None).ok_or("no first child")?;
+        let turned = Turned {
+            state: State {
+                cards: 4,
+                rows: &rows,
+            },
+            places: &[1, 2],
+        };
+        let first = turned.next_marks(None).ok_or("no first child")?;
         assert_eq!(rt; first, [0, 1, 0, 0, 0, 0, 0, 0, 0, 0, 0, 0]);
         let mut room = [blank(); 3];
-        let got = gather(4, &[1, 2], first, &rows, &mut room);
+        let got = turned.gather(first, &mut room);
         written(
             &rt,
             "the first child",
@@ -241,10 +266,10 @@ mod edges {
             &room,
             &[(0x0101, 1), (0x0110, 2)],
         );
-        let second = next_marks(4, &[1, 2], &rows, Some(first)).ok_or("no second child")?;
+        let second = turned.next_marks(Some(first)).ok_or("no second child")?;
         assert_eq!(rt; second, [1, 0, 0, 0, 0, 0, 0, 0, 0, 0, 0, 0]);
         let mut room = [blank(); 2];
-        let got = gather(4, &[1, 2], second, &rows, &mut room);
+        let got = turned.gather(second, &mut room);
         written(
             &rt,
             "the second child",
@@ -252,14 +277,19 @@ mod edges {
             &room,
             &[(0x1001, 3), (0x1010, 4)],
         );
-        assert!(rt; next_marks(4, &[1, 2], &rows, Some(second)).is_none());
+        assert!(rt; turned.next_marks(Some(second)).is_none());
         let mut room = [blank(); 1];
+        assert!(rt; turned.gather(second, &mut room).is_none(), "one short");
         assert!(rt;
-            gather(4, &[1, 2], second, &rows, &mut room).is_none(),
-            "one short"
-        );
-        assert!(rt;
-            next_marks(4, &[1, 2], &rows[0..0], None).is_none(),
+            Turned {
+                state: State {
+                    cards: 4,
+                    rows: &rows[0..0],
+                },
+                places: &[1, 2],
+            }
+            .next_marks(None)
+            .is_none(),
             "no row"
         );
         Ok(())
@@ -272,9 +302,9 @@ mod edges {
         assert!(rt; !marks::before(&[1, 2], &[1, 2]));
         assert!(rt; marks::before(&[1, 2], &[1, 3]));
         assert!(rt; !marks::before(&[2, 0], &[1, 9]));
-        assert!(rt; marks::same(&[1, 2], &[1, 2]));
-        assert!(rt; !marks::same(&[1, 2], &[1, 3]));
-        assert!(rt; !marks::same(&[1, 2], &[1]));
+        assert!(rt; [1u8, 2][..] == [1u8, 2][..]);
+        assert!(rt; [1u8, 2][..] != [1u8, 3][..]);
+        assert!(rt; [1u8, 2][..] != [1u8][..]);
     }
 
     #[test]
@@ -295,10 +325,19 @@ mod edges {
         let uneven = totalled(&uneven).ok_or("too many")?;
         assert_eq!(rt; even, [2, 2, 2, 2, 0, 0, 0, 0]);
         assert_eq!(rt; uneven, [2, 1, 1, 2, 0, 0, 0, 0]);
-        assert!(rt; !leaks(2, 6, false, &even), "even, committed");
-        assert!(rt; leaks(2, 6, false, &uneven), "uneven, committed");
-        assert!(rt; !leaks(2, 6, true, &uneven), "uneven as the values, open");
-        assert!(rt; leaks(2, 8, true, &uneven), "uneven, open");
+        assert!(rt;
+            !leaks(&head(6, Output::Committed), &even),
+            "even, committed"
+        );
+        assert!(rt;
+            leaks(&head(6, Output::Committed), &uneven),
+            "uneven, committed"
+        );
+        assert!(rt;
+            !leaks(&head(6, Output::Open), &uneven),
+            "uneven as the values, open"
+        );
+        assert!(rt; leaks(&head(8, Output::Open), &uneven), "uneven, open");
         Ok(())
     }
 
@@ -315,18 +354,22 @@ mod edges {
             right: Place::at(4),
         };
         assert!(rt;
-            first_wrong(&TwoColour, 4, 2, 6, third, &rows[0..3]).is_none(),
+            first_wrong(&TwoColour, &head(6, Output::Committed), third, &rows[0..3]).is_none(),
             "right"
         );
-        let wrong = first_wrong(&TwoColour, 4, 2, 6, third, &rows).ok_or("none is wrong")?;
+        let wrong = first_wrong(&TwoColour, &head(6, Output::Committed), third, &rows).ok_or(
+            "none is wrong",
+        )?;
         assert_eq!(rt; wrong.row.sequence, 0x0111);
         assert_eq!(rt; wrong.input, 1);
-        assert!(rt; wrong.reading as u8 == 2);
+        assert_eq!(rt; wrong.reading, Reading::Neither);
         let open = Outcome::Opened { value: 1 };
-        let wrong = first_wrong(&TwoColour, 4, 2, 6, open, &rows).ok_or("none is wrong")?;
+        let wrong = first_wrong(&TwoColour, &head(6, Output::Open), open, &rows).ok_or(
+            "none is wrong",
+        )?;
         assert_eq!(rt; wrong.row.sequence, 0x0101);
         assert_eq!(rt; wrong.input, 0);
-        assert!(rt; wrong.reading as u8 == 1);
+        assert_eq!(rt; wrong.reading, Reading::One);
         Ok(())
     }
 

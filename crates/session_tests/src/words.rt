@@ -1,77 +1,91 @@
-// Certificates, answers and records in few words.
-use sessions::call::{Answer, Call};
-use std::alloc::{AllocError, Global};
+// Refusals, certificates, calls and answers in few words.
+use script::fault::Refusal;
+use sessions::call::{Answer, Call, Reply};
+use std::fmt;
 use tree::certificate::Certificate;
 
-fn node_words(heap: Global, node: Option<u16>) -> Result<String, AllocError> {
-    match node {
-        Some(number) => format!(in heap; "{number}"),
-        None => String::from_str(heap, "none"),
+// A refusal by its number, layer, line and place.
+#[derive(Clone, Copy)]
+pub struct Numbered<'a, R> {
+    pub fault: &'a R,
+}
+
+impl<R: Refusal> fmt::Display for Numbered<'_, R> {
+    fn fmt<W: fmt::Write>(&self, f: &mut fmt::Formatter<W>) -> fmt::Result {
+        let number = self.fault.number();
+        let layer = self.fault.layer().number();
+        let line = self.fault.line();
+        let place = self.fault.place();
+        write!(f, "refused {number} {layer} {line} {place}")
     }
 }
 
-// The count of nodes, the first wrong and the first leaking one, and the class of each input.
-pub fn certificate_words(
-    heap: Global,
-    inputs: u8,
-    certificate: &Certificate,
-) -> Result<String, AllocError> {
-    let nodes = certificate.nodes;
-    let wrong = node_words(heap, certificate.wrong)?;
-    let leaking = node_words(heap, certificate.leaking)?;
-    let mut text = format!(in heap; "nodes {nodes}, wrong {wrong}, leaking {leaking}, classes")?;
-    for input in 0..inputs {
-        let class = certificate.classes.of(input);
-        let word = format!(in heap; " {class}")?;
-        text.push_str(word.as_str())?;
-    }
-    Ok(text)
-}
+// The first node of a kind.
+#[derive(Clone, Copy)]
+struct Node(Option<u16>);
 
-fn call_words(heap: Global, call: &Call) -> Result<String, AllocError> {
-    match call {
-        Call::Lay { number } => format!(in heap; "lay {number}"),
-        Call::Step { draw } => format!(in heap; "step {draw}"),
-        Call::Turn => String::from_str(heap, "turn"),
-        Call::Finish => String::from_str(heap, "finish"),
-        Call::Where => String::from_str(heap, "where"),
-    }
-}
-
-fn result_words(heap: Global, answer: &Answer) -> Result<String, AllocError> {
-    match answer {
-        Answer::Began { line } => format!(in heap; "line {line}"),
-        Answer::Stepped { line } => format!(in heap; "line {line}"),
-        Answer::Turned { line, written } => format!(in heap; "line {line}, {written} bytes"),
-        Answer::Finished { output } => format!(in heap; "output {output}"),
-        Answer::Stands { at } => {
-            let phase = at.phase.number();
-            let line = at.line;
-            let written = at.written;
-            format!(in heap; "phase {phase}, line {line}, {written} bytes")
-        }
-        Answer::Refused { fault } => {
-            let number = fault.number();
-            let layer = fault.layer().number();
-            let line = fault.line();
-            let place = fault.place();
-            format!(in heap; "refused {number} {layer} {line} {place}")
+impl fmt::Display for Node {
+    fn fmt<W: fmt::Write>(&self, f: &mut fmt::Formatter<W>) -> fmt::Result {
+        match self.0 {
+            Some(number) => write!(f, "{number}"),
+            None => f.write_str("none"),
         }
     }
 }
 
-pub fn answer_words(heap: Global, call: &Call, answer: &Answer) -> Result<String, AllocError> {
-    let call = call_words(heap, call)?;
-    let result = result_words(heap, answer)?;
-    format!(in heap; "{call}: {result}")
+// A certificate: the count of nodes, the first wrong and the first leaking one, and the class of each input.
+#[derive(Clone, Copy)]
+pub struct Certified {
+    pub inputs: u8,
+    pub certificate: Certificate,
 }
 
-// The bytes in hexadecimal, a blank before each.
-pub fn record_words(heap: Global, page: &[u8]) -> Result<String, AllocError> {
-    let mut text = String::new(heap);
-    for b in page {
-        let word = format!(in heap; " {b:02X}")?;
-        text.push_str(word.as_str())?;
+impl fmt::Display for Certified {
+    fn fmt<W: fmt::Write>(&self, f: &mut fmt::Formatter<W>) -> fmt::Result {
+        let nodes = self.certificate.nodes;
+        let wrong = Node(self.certificate.wrong);
+        let leaking = Node(self.certificate.leaking);
+        write!(
+            f,
+            "nodes {nodes}, wrong {wrong}, leaking {leaking}, classes"
+        )?;
+        for input in 0..self.inputs {
+            let class = self.certificate.classes.of(input);
+            write!(f, " {class}")?;
+        }
+        Ok(())
     }
-    Ok(text)
+}
+
+// A call, and what it answers.
+#[derive(Clone, Copy)]
+pub struct Answered {
+    pub call: Call,
+    pub answer: Answer,
+}
+
+impl fmt::Display for Answered {
+    fn fmt<W: fmt::Write>(&self, f: &mut fmt::Formatter<W>) -> fmt::Result {
+        let call = self.call;
+        match call {
+            Call::Lay { number } => write!(f, "{call} {number}: ")?,
+            Call::Step { draw } => write!(f, "{call} {draw}: ")?,
+            Call::Turn | Call::Finish | Call::Where => write!(f, "{call}: ")?,
+        }
+        match &self.answer {
+            Ok(Reply::Began { line } | Reply::Stepped { line }) => write!(f, "line {line}"),
+            Ok(Reply::Turned { line, written }) => write!(f, "line {line}, {written} bytes"),
+            Ok(Reply::Finished { output }) => write!(f, "output {output}"),
+            Ok(Reply::Stands { at }) => {
+                let phase = at.phase.number();
+                let line = at.line;
+                let written = at.written;
+                write!(f, "phase {phase}, line {line}, {written} bytes")
+            }
+            Err(fault) => {
+                let numbered = Numbered { fault };
+                write!(f, "{numbered}")
+            }
+        }
+    }
 }

@@ -1,16 +1,11 @@
 -- A list of calls, one after the other.
-use Rattle.std.proofs.Common.{◌≡◌, ℕ, ◌+◌, ◌<◌, ◌≤◌, List, [], ◌∷◌, ◌++◌, map, length, get_or, drop, sym, ap, ◌∙◌, subst, append_assoc}
+use Rattle.std.proofs.Common.{◌≡◌, ℕ, ◌+◌, ◌<◌, ◌≤◌, List, [], ◌∷◌, ◌++◌, map, length, get_or, drop, sym, ap, ◌∙◌, append_assoc}
 use Rattle.std.proofs.lemmas.List.{map_push, drop_all, drop_more, append-nil}
-use Rattle.cards.specs.Decks.{DeckMeaning}
-use Rattle.cards.specs.Shuffles.{ShuffleMeaning}
-use Rattle.certifier.specs.declared.certified.CertifiedScript.{CertifiedScript}
 use Rattle.protocol.specs.Machine.{Protocol}
 use Rattle.protocol.specs.Table as model
 use Rattle.protocol.specs.Table.{Session, session, replied, preceded}
 use Rattle.table.specs.Views.{reply}
-use Rattle.tree.specs.Walks.{playing}
-use Rattle.sessions.specs.Calls.{call_of, answer_of}
-use Rattle.sessions.specs.declared.call.Answer.{Answer}
+use Rattle.sessions.specs.Calls.{Answer, call_of, answer_of}
 use Rattle.sessions.specs.declared.call.Call.{Call}
 
 -- the answers so far, and then a session
@@ -53,12 +48,3 @@ module _ (p : Protocol) (whole : Session) where
       let e : whole ≡ prepended (map answer_of done) (session p t bytes []) =
       w ∙ ap (λ (cs : List Call). prepended (map answer_of done) (session p t bytes (map call_of cs))) (drop_all i calls h) in
       (sym (ap (λ (s : Session). s.answers) e ∙ append-nil (map answer_of done)), sym (ap (λ (s : Session). s.bytes) e))
-
--- the same where the call was made on a table with an equal script
-module _ (deck : DeckMeaning) (bank : ℕ → ShuffleMeaning) (s u : CertifiedScript) (same : s ≡ u) where
-  pub going_by : (whole : Session) (done then : List Answer) (t after : model.Table) (bytes bytes_after : List ℕ) (calls : List Call) (i : ℕ) (d : Call) (a : Answer)
-      → i < length calls → replied (playing s.script deck bank) t bytes (call_of (get_or calls i d)) ≡ reply (answer_of a) after bytes_after → then ≡ done ++ a ∷ []
-      → Going (playing u.script deck bank) whole done t bytes (drop i calls) → Going (playing u.script deck bank) whole then after bytes_after (drop (i + 1) calls)
-  going_by whole done then t after bytes bytes_after calls i d a h e n w =
-      going_on (playing u.script deck bank) whole done then t after bytes bytes_after calls i d a h
-      (subst (λ (x : CertifiedScript). replied (playing x.script deck bank) t bytes (call_of (get_or calls i d)) ≡ reply (answer_of a) after bytes_after) same e) n w

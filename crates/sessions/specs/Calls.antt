@@ -1,17 +1,17 @@
 -- What the calls and answers of the code are in the model, and what it is to make them on a table.
-use Rattle.std.specs.Prelude.{◌≡◌, ℕ, List, map}
+use Rattle.std.specs.Prelude.{◌≡◌, ℕ, List, map, Result}
 use Rattle.cards.specs.Decks.{DeckMeaning}
 use Rattle.cards.specs.Shuffles.{ShuffleMeaning}
 use Rattle.protocol.specs.Table as model
 use Rattle.protocol.specs.Table.{replied, session}
-use Rattle.table.specs.Faults.{shown}
-use Rattle.table.specs.Views.{table_of, where_of, reply}
+use Rattle.table.specs.Views.{table_of, where_of, answered, reply}
+use Rattle.table.specs.declared.fault.TableFault.{TableFault}
 use Rattle.table.specs.declared.table.Table.{Table}
 use Rattle.tree.specs.Walks.{playing}
-use Rattle.sessions.specs.declared.call.Answer.{Answer}
-use Rattle.sessions.specs.declared.call.Answer.TheVariants.{Began, Stepped, Turned, Finished, Stands, Refused}
 use Rattle.sessions.specs.declared.call.Call.{Call}
 use Rattle.sessions.specs.declared.call.Call.TheVariants.{Lay, Step, Turn, Finish, Where}
+use Rattle.sessions.specs.declared.call.Reply.{Reply}
+use Rattle.sessions.specs.declared.call.Reply.TheVariants.{Began, Stepped, Turned, Finished, Stands}
 
 abbrev pub call_of : Call → model.Call
 call_of (Lay number) = model.lay number
@@ -20,13 +20,18 @@ call_of Turn = model.turn_up
 call_of Finish = model.finish
 call_of Where = model.where_now
 
+abbrev pub Answer : Type 0
+Answer = Result Reply TableFault
+
+abbrev pub reply_of : Reply → model.Answer
+reply_of (Began line) = model.began line
+reply_of (Stepped line) = model.stepped line
+reply_of (Turned line written) = model.turned line written
+reply_of (Finished output) = model.finished output
+reply_of (Stands at) = model.stands_at (where_of at)
+
 abbrev pub answer_of : Answer → model.Answer
-answer_of (Began line) = model.began line
-answer_of (Stepped line) = model.stepped line
-answer_of (Turned line written) = model.turned line written
-answer_of (Finished output) = model.finished output
-answer_of (Stands at) = model.stands_at (where_of at)
-answer_of (Refused fault) = model.refused (shown fault)
+answer_of a = answered reply_of a
 
 -- one call: the answer, the table and the record after it are the model's
 abbrev pub CallMade : DeckMeaning → (ℕ → ShuffleMeaning) → Table → List ℕ → Call → Answer → Table → List ℕ → Type 0

@@ -11,8 +11,9 @@ pub enum Call {
     Where,
 }
 
+// What a call that is not refused answers.
 #[derive(Clone, Copy, PartialEq, Eq, Debug)]
-pub enum Answer {
+pub enum Reply {
     // Lay: the line it begins at.
     Began { line: u8 },
     // Step: the next line.
@@ -23,5 +24,6 @@ pub enum Answer {
     Finished { output: u8 },
     // Where the table stands.
     Stands { at: Whereabouts },
-    Refused { fault: TableFault },
 }
+
+pub type Answer = Result<Reply, TableFault>;

@@ -2,13 +2,14 @@
 ghost use Rattle.std.specs.Prelude.{◌≡◌, ◌≤◌, [], length, vec_len, vec_capacity};
 ghost use Rattle.sessions.specs.Calls.{CallMade, CallsMade};
 
-use crate::call::{Answer, Call};
+use crate::call::{Answer, Call, Reply};
 use cards::deck::Deck;
 use shuffles::bank::Bank;
 use table::commitment::commit;
 use table::table::Table;
 
-// Makes the call through the table's own method.
+// Makes the call through the table's own method. Deck, bank and record stay apart: by a rule of the project they are lent
+// to the calls that need them.
 fn make_call<D: Deck, B: Bank>(
     table: &mut Table,
     deck: &D,
@@ -19,27 +20,24 @@ fn make_call<D: Deck, B: Bank>(
     ensures made { CallMade (D.Deck.means deck.now) (B.Bank.at bank.now) table.old «record».old call result table.new «record».new }
     ensures kept { table.new.script ≡ table.old.script }
 {
-    match call {
-        Call::Lay { number } => match table.lay(deck, commit(number)) {
-            Ok(line) => Answer::Began { line },
-            Err(fault) => Answer::Refused { fault },
+    Ok(match call {
+        Call::Lay { number } => Reply::Began {
+            line: table.lay(deck, commit(number))?,
         },
-        Call::Step { draw } => match table.step(bank, draw) {
-            Ok(line) => Answer::Stepped { line },
-            Err(fault) => Answer::Refused { fault },
+        Call::Step { draw } => Reply::Stepped {
+            line: table.step(bank, draw)?,
         },
-        Call::Turn => match table.turn(record) {
-            Ok((line, written)) => Answer::Turned { line, written },
-            Err(fault) => Answer::Refused { fault },
+        Call::Turn => {
+            let (line, written) = table.turn(record)?;
+            Reply::Turned { line, written }
+        }
+        Call::Finish => Reply::Finished {
+            output: table.finish(deck)?,
         },
-        Call::Finish => match table.finish(deck) {
-            Ok(output) => Answer::Finished { output },
-            Err(fault) => Answer::Refused { fault },
-        },
-        Call::Where => Answer::Stands {
+        Call::Where => Reply::Stands {
             at: table.whereabouts(),
         },
-    }
+    })
 }
 
 // Makes the calls and pushes each answer; there is room for as many.

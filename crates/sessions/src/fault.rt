@@ -16,6 +16,7 @@ pub enum PlayFault {
     Uncertified { certificate: Certificate },
 }
 
+// Both conversions are written out, since the contract of `play` names what they give.
 impl From<AllocError> for PlayFault {
     ghost from_gives = { λ _ r. r ≡ Memory };
 

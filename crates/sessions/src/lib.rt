@@ -6,3 +6,4 @@ mod calls;
 pub mod fault;
 pub mod play;
 pub mod played;
+mod said;

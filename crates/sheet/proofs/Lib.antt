@@ -1,4 +1,5 @@
 pub mod Multiplying
 pub mod Results
 pub mod Paths
-mod Filling
+pub mod Stepping
+mod Weighing

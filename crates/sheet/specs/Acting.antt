@@ -8,7 +8,7 @@ use Rattle.heads.specs.declared.head.Head.{Head}
 use Rattle.format.specs.Form.{wrong, ends, listed}
 use Rattle.heads.specs.Heads.{deck_meaning}
 use Rattle.format.specs.Kinds.{head_form, head_rule, layout_form, code_rule, form_at}
-use Rattle.format.specs.Parts.{Parts, parts, permute, cut, explicit, turn, committed, opened, none}
+use Rattle.format.specs.Parts.{parts, permute, cut, explicit, turn, committed, opened, none}
 use Rattle.format.proofs.Inversion.{listed_fits, byte_fits}
 use Rattle.sheet.specs.Actions.{written_entries}
 use Rattle.sheet.specs.Lines.{left, frame, line_count}
@@ -96,7 +96,3 @@ module _ (sheet : List ℕ) (lines : ℕ) (counted : Counted sheet lines) (h : H
 
   pub nothing_late : (line : ℕ) → lines ≤ line → model.none ≡ action sheet line
   nothing_late line l = sym (ap (action_of line) (parts_late line l))
-
-  pub acted : (line : ℕ) (bytes : List ℕ) (p : Parts) (a : model.Action) → bytes ≡ frame sheet line → p ≡ parts bytes
-      → a ≡ action_of line p → a ≡ action sheet line
-  acted line bytes p a e f g = g ∙ (ap (action_of line) f ∙ ap (λ b. action_of line (parts b)) e)

@@ -4,11 +4,14 @@ pub mod Scripts
 pub mod Products
 pub mod Verdicts
 pub mod Counting
+pub mod Reading
 pub mod Actions
+pub mod Branching
 pub mod Sheets
 pub mod Laws
 pub mod OwnShuffles
 pub mod Owning
+pub mod Meaning
 pub mod CountingLemmas
 pub mod Firsts
 pub mod Lawful

@@ -1,5 +1,6 @@
 -- Products of totals along the paths of a script, from line 2 on, by next lines and targets.
-use Rattle.std.specs.Prelude.{◌≡◌, ℕ, zero, suc, ◌*◌, ◌^◌, max, Bool, true, false, cond, ◌||◌, List, [], ◌∷◌, ◌++◌, ◌==◌, slice_index}
+use Rattle.std.specs.Prelude.{◌≡◌, ℕ, zero, suc, ◌*◌, ◌^◌, max, Bool, true, false, cond, List, [], ◌∷◌, ◌++◌, ◌==◌, slice_index}
+use Rattle.std.specs.List.{list_any}
 use Rattle.script.specs.Model.{Action, Branch, permute, shuffle, turn, committed, opened, none}
 
 -- how many draws the line has: one where there is nothing to draw
@@ -21,8 +22,7 @@ shuffles none = false
 
 -- some branch has this target
 abbrev pub targets : List Branch → ℕ → Bool
-targets [] line = false
-targets (b ∷ bs) line = b.target == line || targets bs line
+targets bs line = list_any (λ b. b.target == line) bs
 
 -- the action may go on to this line
 abbrev pub leads : Action → ℕ → Bool

@@ -9,7 +9,7 @@ abbrev pub sheet_bytes : Sheet → List ℕ
 sheet_bytes s = vec_items s.bytes
 
 abbrev pub script_bytes : CheckedScript → List ℕ
-script_bytes s = vec_items s.bytes
+script_bytes s = sheet_bytes s.sheet
 
 abbrev pub script : CheckedScript → Script
 script s = script_of (script_bytes s)

@@ -1,11 +1,11 @@
 -- The lines of a sheet, one after another.
-use Rattle.std.specs.Prelude.{◌≡◌, ℕ, zero, suc, ◌+◌, ◌-◌, ◌<◌, ◌≤◌, min, Bool, true, false, ◌||◌, ◌⊎◌, List, [], ◌∷◌, length, take, drop, Some, None, ◌==◌, nat_lt, slice_index, refl}
-use Rattle.std.proofs.Common.{add-zero, add-suc, add-one, arith, inl, inr, ⊎_elim, sym, ap, ◌∙◌, subst}
-use Rattle.std.proofs.lemmas.List.{drop_all, take_all, nil_from_length}
+use Rattle.std.specs.Prelude.{◌≡◌, ℕ, zero, suc, ◌+◌, ◌-◌, ◌≤◌, true, false, List, [], ◌∷◌, length, Some, None, refl}
+use Rattle.std.proofs.Common.{add-zero, add-suc, add-one, arith, ⊎_elim, sym, ap, ◌∙◌, subst}
+use Rattle.std.proofs.lemmas.List.{nil_from_length}
 use Rattle.std.proofs.lemmas.Bool.{cases_lt}
 use Rattle.heads.specs.Faults.{sheet_fault}
 use Rattle.sheet.specs.First.{first, given, value_or}
-use Rattle.sheet.specs.Lines.{left, first_frame, after_first, bad_length, no_more}
+use Rattle.sheet.specs.Lines.{left, after_first, bad_length, no_more}
 use Rattle.sheet.specs.Verdicts.{length_fault}
 use Rattle.sheet.specs.Counting.{Counted}
 use Rattle.sheet.specs.Firsts.{first_zero, first_more, first_none_each, first_from_each, first_some}
@@ -20,31 +20,6 @@ left_suc sheet l = refl
 
 pub left_more : (sheet : List ℕ) (l : ℕ) → left sheet (l + 1) ≡ after_first (left sheet l)
 left_more sheet l = rw (add-one, left_suc sheet l)
-
--- what comes after a length byte, as the code cuts it
-pub cut_front : (n : ℕ) (xs : List ℕ) → take (min n (length xs)) xs ≡ take n xs
-cut_front n xs = go (cases_lt n (length xs))
-  where
-    go : (n < length xs) ⊎ (length xs ≤ n) → take (min n (length xs)) xs ≡ take n xs
-    go (inl h) = let e : min n (length xs) ≡ n = omega arith in rw e
-    go (inr h) = let e : min n (length xs) ≡ length xs = omega arith in rw (e, take_all n xs h, take_all (length xs) xs (omega arith))
-
-pub cut_back : (n : ℕ) (xs : List ℕ) → drop (min n (length xs)) xs ≡ drop n xs
-cut_back n xs = go (cases_lt n (length xs))
-  where
-    go : (n < length xs) ⊎ (length xs ≤ n) → drop (min n (length xs)) xs ≡ drop n xs
-    go (inl h) = let e : min n (length xs) ≡ n = omega arith in rw e
-    go (inr h) = let e : min n (length xs) ≡ length xs = omega arith in rw (e, drop_all n xs h, drop_all (length xs) xs (omega arith))
-
-pub front_is : (bytes : List ℕ) (e : ℕ) → 1 ≤ length bytes → e ≡ min (length (drop 1 bytes)) (slice_index bytes 0)
-    → take e (drop 1 bytes) ≡ first_frame bytes
-front_is [] e l h = absurd (omega arith)
-front_is (n ∷ bs) e l h = let k : e ≡ min n (length bs) = omega arith in rw k (cut_front n bs)
-
-pub back_is : (bytes : List ℕ) (e : ℕ) → 1 ≤ length bytes → e ≡ min (length (drop 1 bytes)) (slice_index bytes 0)
-    → drop e (drop 1 bytes) ≡ after_first bytes
-back_is [] e l h = absurd (omega arith)
-back_is (n ∷ bs) e l h = let k : e ≡ min n (length bs) = omega arith in rw k (cut_back n bs)
 
 -- the first so many lines have sound length bytes, and the sheet does not end before them
 module _ (sheet : List ℕ) where
@@ -77,18 +52,6 @@ module _ (sheet : List ℕ) where
       → first 65 (length_fault sheet) ≡ Some (sheet_fault 8 l 0)
   walked_fault l rest i w f =
       first_some (length_fault sheet) l 65 _ (omega arith) w.sound (let p = w.here in rw (← p, f))
-
-  pub walked_last : (rest : List ℕ) → Walked 64 rest → 1 ≤ length rest → first 65 (length_fault sheet) ≡ Some (sheet_fault 8 64 0)
-  walked_last rest w i = walked_fault 64 rest (omega arith) w (too_many rest i)
-    where
-      or_true : (x y : Bool) → (x || (y || true)) ≡ true
-      or_true true y = refl
-      or_true false true = refl
-      or_true false false = refl
-
-      too_many : (xs : List ℕ) → 1 ≤ length xs → bad_length 64 xs ≡ true
-      too_many [] k = absurd (omega arith)
-      too_many (n ∷ xs) k = or_true (n == 0 || nat_lt 128 n) (nat_lt (length xs) n)
 
   -- after the end there is nothing
   pub empty_on : (l k : ℕ) → left sheet l ≡ [] → left sheet (l + k) ≡ []

@@ -55,10 +55,13 @@ result_kind Open = 0x31
 abbrev pub kind_at : List ℕ → ℕ → ℕ
 kind_at sheet line = slice_index (frame sheet line) 0
 
+-- the line is a result of another kind than the head's output asks for
+abbrev pub differs : List ℕ → ℕ → Bool
+differs sheet line = is_result (kind_at sheet line) && not (kind_at sheet line == result_kind (head sheet).output)
+
 -- 17: the kind of a result differs from the head's output
 abbrev pub result_fault : List ℕ → ℕ → Option Fault
-result_fault sheet line =
-    given (is_result (kind_at sheet line) && not (kind_at sheet line == result_kind (head sheet).output)) (sheet_fault 17 line 0)
+result_fault sheet line = given (differs sheet line) (sheet_fault 17 line 0)
 
 -- 18: the last line is no result
 abbrev pub last_fault : List ℕ → Option Fault
@@ -67,6 +70,11 @@ last_fault sheet = given (not (is_result (kind_at sheet (line_count sheet - 1)))
 -- 19: at a shuffle line, a product of totals along a path exceeds the limit
 abbrev pub product_fault : List ℕ → ℕ → Option Fault
 product_fault sheet line = given (shuffles (action sheet line) && nat_lt limit (greatest (action sheet) line)) (sheet_fault 19 line 0)
+
+-- The first refusal of the lengths of all lines, the number of lines or a frame.
+abbrev pub form_fault : List ℕ → Option Fault
+form_fault sheet =
+    first_of (first 65 (length_fault sheet) ∷ few_fault sheet ∷ first (line_count sheet) (line_fault sheet) ∷ [])
 
 -- The first refusal, or none: the lengths of all lines, the number of lines, the frames line by line, the kinds of the
 -- results, the last line, the products.

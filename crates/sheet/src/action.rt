@@ -1,4 +1,6 @@
-// What a line of a script does, with its parts lent from the sheet.
+// What a line of a script does, with its parts lent from the sheet. The cases are those of the model, which has one for
+// nothing too: an `Option` around the others would only add a level to every match. Nor is it the frame: a shuffle is
+// known here by its total alone.
 #[derive(Clone, Copy)]
 pub enum Action<'a> {
     // Byte p of `places` is where the card at place p goes; the line goes on to `next`.

@@ -3,45 +3,30 @@ ghost use Rattle.std.specs.Prelude.{◌≡◌, ℕ, suc, ◌+◌, ◌<◌, ◌�
 ghost use Rattle.cards.specs.Shuffles.{weights, entries_of};
 ghost use Rattle.format.specs.Views.{view};
 ghost use Rattle.sheet.specs.Actions.{shows, written_entries};
-ghost use Rattle.sheet.specs.Counting.{Counted, FramesRead};
 ghost use Rattle.sheet.specs.Products.{total as draws, shuffles as draws_some, leads, targets};
-ghost use Rattle.sheet.specs.Scripts.{action_of, action, branches_of};
+ghost use Rattle.sheet.specs.Scripts.{action_of, branches_of};
 
 use crate::action::Action;
-use crate::lines::frame_at;
+use crate::branches::Branches;
 use format::frame::Frame;
-use format::read::read_frame;
-use heads::head::Head;
 
 // The sum of the weights of the entries: each has a weight and then the images of the slots.
 pub fn total_weight(slots: u8, entries: &[u8]) -> u16
     requires { length entries.now ≤ 128 }
     ensures { result ≡ weights (entries_of slots entries.now) }
 {
-    let mut sum = 0u16;
-    let mut rest = entries;
-    while let [weight, tail @ ..] = rest {
-        sum += u16::from(*weight);
-        let end = tail.len().min(slots as usize);
-        let (_, after) = tail.split_at(end);
-        rest = after;
-    }
-    sum
+    entries
+        .iter()
+        .step_by(usize::from(slots) + 1)
+        .map(|weight| u16::from(*weight))
+        .sum()
 }
 
 // Whether a branch of a turn of so many cards goes to the line.
 fn has_target(turned: usize, branches: &[u8], line: u8) -> bool
     ensures { result ≡ targets (branches_of turned branches.now) line }
 {
-    let mut rest = branches;
-    while rest.len() > turned {
-        if rest[turned] == line {
-            return true;
-        }
-        let (_, after) = rest.split_at(turned + 1);
-        rest = after;
-    }
-    false
+    Branches::new(turned, branches).any(|branch| branch.target == line)
 }
 
 // What the frame at a line does.
@@ -88,24 +73,9 @@ impl Action<'_> {
         ensures { result ≡ leads (shows self.now) line }
     {
         match self {
-            Action::Permute { next, .. } => *next == line,
-            Action::Shuffle { next, .. } => *next == line,
+            Action::Permute { next, .. } | Action::Shuffle { next, .. } => *next == line,
             Action::Turn { places, branches } => has_target(places.len(), branches, line),
             _ => false,
         }
-    }
-}
-
-// The action at a line of a sheet whose frames were checked.
-pub fn action_in<'a>(bytes: &'a [u8], lines: u8, head: &Head, line: u8) -> Action<'a>
-    requires { (Counted bytes.now lines) × ((FramesRead bytes.now lines head.now) × (3 ≤ lines)) }
-    ensures { shows result ≡ action bytes.now line }
-{
-    if line < 2 || line >= lines {
-        return Action::Nothing;
-    }
-    match read_frame(head, lines, line, frame_at(bytes, line)) {
-        Ok(frame) => act(line, frame),
-        Err(_) => unreachable(),
     }
 }

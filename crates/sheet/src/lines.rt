@@ -1,38 +1,64 @@
 // The lines of a sheet. Each is a length byte and then a frame of so many bytes.
-ghost use Rattle.std.specs.Prelude.{◌≡◌, ℕ, ◌≤◌, Some, MatchResult};
+ghost use Rattle.std.specs.Prelude.{◌≡◌, ℕ, ◌≤◌, Some, MatchResult, length};
+ghost use Rattle.std.specs.Iterator.{at_most};
 ghost use Rattle.heads.specs.Faults.{shown};
 ghost use Rattle.sheet.specs.First.{first};
-ghost use Rattle.sheet.specs.Lines.{first_frame, after_first, frame, bad_length};
+ghost use Rattle.sheet.specs.Lines.{frame};
+ghost use Rattle.sheet.specs.Reading.{Steps, bad_line};
 ghost use Rattle.sheet.specs.Verdicts.{length_fault};
 ghost use Rattle.sheet.specs.Counting.{Counted};
 
 use heads::fault::SheetFault;
 
-// The frame after the length byte; all that is left where there is less.
-fn first_frame(bytes: &[u8]) -> &[u8]
-    ensures { result.now ≡ first_frame bytes.now }
-{
-    match bytes {
-        [n, tail @ ..] => {
-            let end = tail.len().min(*n as usize);
-            let (frame, _) = tail.split_at(end);
-            frame
-        }
-        [] => bytes,
+// A length byte, and the frame after it: all that is left where there is less.
+#[derive(Clone, Copy)]
+pub struct Line<'a> {
+    pub length: u8,
+    pub frame: &'a [u8],
+}
+
+// The lines that are left of a sheet.
+#[derive(Clone, Copy, Drop)]
+pub struct Lines<'a> {
+    rest: &'a [u8],
+}
+
+impl<'a> Lines<'a> {
+    // The lines of the bytes.
+    pub fn new(bytes: &'a [u8]) -> Lines<'a>
+        ensures { result.rest.now ≡ bytes.now }
+    {
+        Lines { rest: bytes }
     }
 }
 
-// What comes after the first line.
-fn after_first(bytes: &[u8]) -> &[u8]
-    ensures { result.now ≡ after_first bytes.now }
-{
-    match bytes {
-        [n, tail @ ..] => {
-            let end = tail.len().min(*n as usize);
-            let (_, rest) = tail.split_at(end);
-            rest
-        }
-        [] => bytes,
+impl<'a> Iterator for Lines<'a> {
+    type Item = Line<'a>;
+
+    ghost next_gives = { Steps };
+
+    ghost remaining = { λ l. at_most (length l.rest.now) };
+
+    fn next(&mut self) -> Option<Line<'a>> {
+        let (length, tail) = self.rest.split_first()?;
+        let (frame, rest) = tail.split_at(tail.len().min(usize::from(*length)));
+        self.rest = rest;
+        Some(Line {
+            length: *length,
+            frame,
+        })
+    }
+}
+
+impl Line<'_> {
+    // Whether the length byte is 0, above 128 or past the end, or begins a line too many.
+    fn fails(&self, line: u8) -> bool
+        ensures { result ≡ bad_line line self.now }
+    {
+        self.length == 0
+            || self.length > 128
+            || self.frame.len() < usize::from(self.length)
+            || line >= 64
     }
 }
 
@@ -40,20 +66,9 @@ fn after_first(bytes: &[u8]) -> &[u8]
 pub fn frame_at(bytes: &[u8], line: u8) -> &[u8]
     ensures { result.now ≡ frame bytes.now line }
 {
-    let mut rest = bytes;
-    for _l in 0..line {
-        rest = after_first(rest);
-    }
-    first_frame(rest)
-}
-
-// The length byte is 0, above 128 or past the end, or begins a line too many.
-fn length_fails(line: u8, bytes: &[u8]) -> bool
-    ensures { result ≡ bad_length line bytes.now }
-{
-    match bytes {
-        [n, tail @ ..] => *n == 0 || *n > 128 || *n as usize > tail.len() || line >= 64,
-        [] => false,
+    match Lines::new(bytes).nth(usize::from(line)) {
+        Some(found) => found.frame,
+        None => &[],
     }
 }
 
@@ -61,18 +76,12 @@ fn length_fails(line: u8, bytes: &[u8]) -> bool
 pub fn count_lines(bytes: &[u8]) -> Result<u8, SheetFault>
     ensures { MatchResult result (λ n. Counted bytes.now n) (λ e. first 65 (length_fault bytes.now) ≡ Some (shown e)) }
 {
-    let mut rest = bytes;
-    for line in 0..64 {
-        if rest.is_empty() {
-            return Ok(line);
+    let mut lines = 0;
+    for line in Lines::new(bytes) {
+        if line.fails(lines) {
+            return Err(SheetFault::Length { line: lines });
         }
-        if length_fails(line, rest) {
-            return Err(SheetFault::Length { line });
-        }
-        rest = after_first(rest);
+        lines += 1;
     }
-    if rest.is_empty() {
-        return Ok(64);
-    }
-    Err(SheetFault::Length { line: 64 })
+    Ok(lines)
 }

@@ -1,29 +1,24 @@
 // The passes of check, each over the whole sheet. A pass answers the first refusal of its kind.
-ghost use Rattle.std.specs.Prelude.{◌≡◌, ℕ, ◌<◌, ◌≤◌, length, Some, None, MatchResult, slice_index};
+ghost use Rattle.std.specs.Prelude.{◌≡◌, ◌≤◌, length, true, false, Some, MatchResult, MatchOption};
 ghost use Rattle.heads.specs.Faults.{shown};
+ghost use Rattle.heads.specs.Kinds.{kind_byte};
 ghost use Rattle.sheet.specs.Counting.{Counted, Outcome, FramesRead};
 ghost use Rattle.sheet.specs.First.{first};
-ghost use Rattle.sheet.specs.Verdicts.{missing_code, layout_fault, line_fault, is_result, result_kind, result_fault, last_fault};
-ghost use Rattle.sheet.specs.Lines.{line_count};
-ghost use Rattle.sheet.specs.Scripts.{head as head_in};
+ghost use Rattle.sheet.specs.Verdicts.{missing_code, layout_fault, line_fault, is_result, kind_at, differs, result_fault, last_fault};
 
 use crate::lines::frame_at;
+use crate::read::ReadSheet;
 use format::read::{read_frame, read_head, read_layout};
 use heads::fault::SheetFault;
-use heads::head::{Head, Output};
-use shuffles::lists::stands;
+use heads::head::Head;
+use heads::kind::Kind;
 
 // The least code of the players that the layout lacks.
 fn find_missing(players: u8, codes: &[u8]) -> Option<u8>
     requires { players ≤ 3 }
     ensures { result ≡ missing_code players codes.now }
 {
-    for i in 0..2 * players {
-        if !stands(16 + i, codes) {
-            return Some(16 + i);
-        }
-    }
-    None
+    (16..16 + 2 * players).find(|code| !codes.contains(code))
 }
 
 // The frame of line 1, and then that no player's code is missing.
@@ -51,54 +46,44 @@ pub fn check_frames(bytes: &[u8], lines: u8) -> Result<Head, SheetFault>
     Ok(head)
 }
 
-fn kind_of(bytes: &[u8]) -> u8
-    ensures { result ≡ slice_index bytes.now 0 }
-{
-    match bytes {
-        [kind, ..] => *kind,
-        [] => 0,
-    }
-}
-
-fn is_result(kind: u8) -> bool
-    ensures { result ≡ is_result kind }
-{
-    kind == 0x30 || kind == 0x31
-}
-
-fn result_kind(output: Output) -> u8
-    ensures { result ≡ result_kind output }
-{
-    match output {
-        Output::Committed => 0x30,
-        Output::Open => 0x31,
-    }
-}
-
-// Each result has the kind that the head's output asks for.
-pub fn check_results(bytes: &[u8], lines: u8, head: &Head) -> Result<(), SheetFault>
-    requires { head.now ≡ head_in bytes.now }
-    ensures { Outcome result (first lines (result_fault bytes.now)) }
-{
-    let wanted = result_kind(head.output);
-    for line in 0..lines {
-        let kind = kind_of(frame_at(bytes, line));
-        if is_result(kind) && kind != wanted {
-            return Err(SheetFault::ResultKind { line });
+impl ReadSheet<'_> {
+    // The kind of the result at a line, none where the line is no result.
+    fn result_at(&self, line: u8) -> Option<Kind>
+        ensures { MatchOption result (is_result (kind_at self.now.bytes.now line) ≡ false) (λ k. (is_result (kind_at self.now.bytes.now line) ≡ true) × (kind_byte k ≡ kind_at self.now.bytes.now line)) }
+    {
+        match Kind::try_from(*frame_at(self.bytes, line).first()?) {
+            Ok(kind @ (Kind::Committed | Kind::Open)) => Some(kind),
+            Ok(_) => None,
+            Err(_) => None,
         }
     }
-    Ok(())
-}
 
-// The last line is a result.
-pub fn check_last(bytes: &[u8], lines: u8) -> Result<(), SheetFault>
-    requires { (lines ≡ line_count bytes.now) × (1 ≤ lines) }
-    ensures { Outcome result (last_fault bytes.now) }
-{
-    let line = lines - 1;
-    if is_result(kind_of(frame_at(bytes, line))) {
-        Ok(())
-    } else {
-        Err(SheetFault::LastLine { line })
+    // Whether the line is a result of another kind than the head's output asks for.
+    fn differs(&self, line: u8) -> bool
+        ensures { result ≡ differs self.now.bytes.now line }
+    {
+        let wanted = Kind::from(self.head.output);
+        self.result_at(line).is_some_and(|kind| kind != wanted)
+    }
+
+    // Each result has the kind that the head's output asks for.
+    pub fn check_results(&self) -> Result<(), SheetFault>
+        ensures { Outcome result (first self.now.lines (result_fault self.now.bytes.now)) }
+    {
+        match (0..self.lines).find(|line| self.differs(*line)) {
+            Some(line) => Err(SheetFault::ResultKind { line }),
+            None => Ok(()),
+        }
+    }
+
+    // The last line is a result.
+    pub fn check_last(&self) -> Result<(), SheetFault>
+        ensures { Outcome result (last_fault self.now.bytes.now) }
+    {
+        let line = self.lines - 1;
+        match self.result_at(line) {
+            Some(_) => Ok(()),
+            None => Err(SheetFault::LastLine { line }),
+        }
     }
 }

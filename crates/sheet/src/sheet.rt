@@ -25,6 +25,6 @@ impl Sheet {
         ensures lawful { LawfulScript (script result) }
         ensures small { SmallProducts (script result) }
     {
-        self.made()
+        CheckedScript { sheet: self }
     }
 }

@@ -13,8 +13,8 @@ pub struct Sheet {
 // A sheet that passes, for as long as it exists.
 #[derive(Drop)]
 pub struct CheckedScript {
-    bytes: Vec<u8>,
-    ghost passes: { is_some (verdict bytes.items) ≡ false },
+    pub(crate) sheet: Sheet,
+    ghost passes: { is_some (verdict sheet.bytes.items) ≡ false },
 }
 
 impl Sheet {
@@ -29,28 +29,16 @@ impl Sheet {
     {
         self.bytes.as_slice()
     }
-
-    pub(crate) fn made(self) -> CheckedScript
-        requires { is_some (verdict self.bytes.items) ≡ false }
-        ensures { result.bytes ≡ self.bytes }
-    {
-        let Sheet { bytes } = self;
-        CheckedScript { bytes }
-    }
 }
 
 impl CheckedScript {
-    pub(crate) fn written(&self) -> &[u8]
-        ensures { result.now ≡ self.now.bytes.items }
-    {
-        self.bytes.as_slice()
-    }
-
     // A second script with the same bytes.
     pub fn copied(&self, heap: Global) -> Result<CheckedScript, AllocError>
-        ensures { IfOk result (λ s. s.bytes.items ≡ self.now.bytes.items) }
+        ensures { IfOk result (λ s. s.sheet.bytes.items ≡ self.now.sheet.bytes.items) }
     {
-        let bytes = Vec::from_slice(heap, self.written())?;
-        Ok(CheckedScript { bytes })
+        let bytes = Vec::from_slice(heap, self.sheet.written())?;
+        Ok(CheckedScript {
+            sheet: Sheet::new(bytes),
+        })
     }
 }

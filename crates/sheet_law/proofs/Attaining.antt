@@ -6,7 +6,7 @@ use Rattle.script.specs.Model.{Action}
 use Rattle.sheet.specs.Products.{Path, start, onward, total, leads, best, arrival, arrivals, greatest, limit}
 use Rattle.sheet.proofs.Multiplying.{arrivals_suc, length_arrivals}
 
-arrivals_at : (act : ℕ → Action) (n j : ℕ) → j < n → get_or (arrivals act n) j 0 ≡ arrival act j (arrivals act j)
+pub arrivals_at : (act : ℕ → Action) (n j : ℕ) → j < n → get_or (arrivals act n) j 0 ≡ arrival act j (arrivals act j)
 arrivals_at act zero j l = absurd (omega arith)
 arrivals_at act (suc n) j l =
     ⊎_elim
@@ -42,11 +42,11 @@ module _ (act : ℕ → Action) (arrived : List ℕ) (line : ℕ) where
       (cases_Bool (leads (act k) line))
 
 module _ (act : ℕ → Action) where
-  positive : (x t : ℕ) → 0 < x * t → 0 < x
+  pub positive : (x t : ℕ) → 0 < x * t → 0 < x
   positive zero t h = absurd (omega (arith, zero-mul t))
   positive (suc x) t h = omega arith
 
-  attained : (n line : ℕ) → line < n → 0 < arrival act line (arrivals act line) → Path act line (arrival act line (arrivals act line))
+  pub attained : (n line : ℕ) → line < n → 0 < arrival act line (arrivals act line) → Path act line (arrival act line (arrivals act line))
   attained zero line l h = absurd (omega arith)
   attained (suc n) line l h =
       ⊎_elim

@@ -62,13 +62,13 @@ module _ (w : Writing) (k : KeepsRules w) where
   few_frames : length (frames w) ≤ 64
   few_frames = let e = lines_long in omega (arith, e, k.few)
 
-  count : line_count sheet ≡ length (frames w)
+  pub count : line_count sheet ≡ length (frames w)
   count = join_count (frames w) few_frames some_frame k.short
 
   at : (l : ℕ) → frame sheet l ≡ get_or (frames w) l []
   at l = frame_join (frames w) l
 
-  head_is : head sheet ≡ w.head
+  pub head_is : head sheet ≡ w.head
   head_is = ap head_of (at 0) ∙ head_back w.head
 
   first_line : line_fault sheet 0 ≡ None

@@ -1,1 +1,4 @@
+pub mod Exceeding
+pub mod Named
+pub mod Owned
 pub mod Whole

@@ -3,10 +3,13 @@
 // as they stand, without a length byte before them. A line that begins with '#' is passed over.
 #![tactic(auto)]
 
+use heads::fault::SheetFault;
+use script::fault::Refusal;
 use sheet::states::Sheet;
 use sheet_text::{TextFault, add_line, frame_bytes};
 use std::alloc::Global;
 
+// What a refusal names.
 #[derive(Clone, Copy, PartialEq, Eq, Debug)]
 struct Answer {
     number: u8,
@@ -14,60 +17,55 @@ struct Answer {
     place: u16,
 }
 
-fn check_of(sheet: &Sheet) -> Answer {
-    match sheet.check() {
-        Ok(()) => Answer {
-            number: 0,
-            line: 0,
-            place: 0,
-        },
-        Err(fault) => Answer {
+impl From<SheetFault> for Answer {
+    fn from(fault: SheetFault) -> Answer {
+        Answer {
             number: fault.number(),
             line: fault.line(),
             place: fault.place(),
-        },
+        }
     }
+}
+
+// What check must answer, and the sheet.
+#[derive(Drop)]
+struct Case {
+    expected: Result<(), Answer>,
+    sheet: Sheet,
 }
 
 fn add_word(heap: Global, bytes: &mut Vec<u8>, word: &[u8]) -> Result<(), TextFault> {
     match word {
-        [b'=', raw @ ..] => {
-            let raw = frame_bytes(heap, raw)?;
-            bytes.extend_from_slice(raw.as_slice())?;
-            Ok(())
-        }
+        [b'=', raw @ ..] => Ok(bytes.extend_from_slice(frame_bytes(heap, raw)?.as_slice())?),
         _ => add_line(heap, bytes, word),
     }
 }
 
-// The refusal that must come, and the sheet; none where the line is not of the table's form.
-fn case(heap: Global, text: &str) -> Result<Option<(Answer, Sheet)>, TextFault> {
-    let mut bytes = Vec::new(heap);
-    let mut number = None;
-    let mut line = None;
-    let mut place = None;
-    for (i, word) in text.split_whitespace().enumerate() {
-        match i {
-            0 => number = word.parse::<u8>().ok(),
-            1 => line = word.parse::<u8>().ok(),
-            2 => place = word.parse::<u16>().ok(),
-            _ => add_word(heap, &mut bytes, word.as_bytes())?,
-        }
-    }
-    match (number, line, place) {
-        (Some(number), Some(line), Some(place)) => Ok(Some((
-            Answer {
+impl Case {
+    // The case in a line of the table; none where the line is not of the table's form.
+    fn read(heap: Global, text: &str) -> Option<Case> {
+        let mut words = text.split_whitespace();
+        let number = words.next()?.parse().ok()?;
+        let line = words.next()?.parse().ok()?;
+        let place = words.next()?.parse().ok()?;
+        let expected = match (number, line, place) {
+            (0, 0, 0) => Ok(()),
+            _ => Err(Answer {
                 number,
                 line,
                 place,
-            },
-            Sheet::new(bytes),
-        ))),
-        _ => Ok(None),
+            }),
+        };
+        let mut bytes = Vec::new(heap);
+        for word in words {
+            add_word(heap, &mut bytes, word.as_bytes()).ok()?;
+        }
+        let sheet = Sheet::new(bytes);
+        Some(Case { expected, sheet })
     }
 }
 
-fn run(rt: &HostRuntime) -> anyhow::Result<()> {
+fn main(rt: HostRuntime) -> anyhow::Result<()> {
     let heap = rt.alloc();
     let mut agree = 0usize;
     let mut differ = 0usize;
@@ -77,9 +75,9 @@ fn run(rt: &HostRuntime) -> anyhow::Result<()> {
         if text.is_empty() || text.starts_with("#") {
             continue;
         }
-        match case(heap, text.as_str()) {
-            Ok(Some((expected, sheet))) => {
-                let found = check_of(&sheet);
+        match Case::read(heap, text.as_str()) {
+            Some(Case { expected, sheet }) => {
+                let found = sheet.check().map_err(Answer::from);
                 if found == expected {
                     agree = agree.saturating_add(1);
                 } else {
@@ -87,7 +85,7 @@ fn run(rt: &HostRuntime) -> anyhow::Result<()> {
                     println!(rt; "{text}: found {found:?}")?;
                 }
             }
-            _ => {
+            None => {
                 broken = broken.saturating_add(1);
                 println!(rt; "{text}: not a case")?;
             }
@@ -95,8 +93,4 @@ fn run(rt: &HostRuntime) -> anyhow::Result<()> {
     }
     println!(rt; "{agree} agree, {differ} differ, {broken} are no cases")?;
     Ok(())
-}
-
-fn main(rt: HostRuntime) -> anyhow::Result<()> {
-    run(&rt)
 }

@@ -4,29 +4,18 @@
 ghost use Rattle.std.specs.Prelude.{◌≡◌};
 ghost use Rattle.sheet_text.specs.Hex.{digit_value};
 
-use std::alloc::{AllocError, AllocFailed, Global};
+use std::alloc::{AllocError, Global};
+use thiserror::Error;
 
 // Why a text is no sheet.
-#[derive(Clone, Copy, PartialEq, Eq, Debug)]
+#[derive(Clone, Copy, PartialEq, Eq, Debug, Error)]
 pub enum TextFault {
-    // A character that is no hexadecimal digit.
+    #[error("a character that is no hexadecimal digit")]
     Character,
-    // A digit without a second one.
+    #[error("a byte has two digits")]
     HalfByte,
-    // No memory.
-    Memory,
-}
-
-impl From<AllocError> for TextFault {
-    fn from(_e: AllocError) -> TextFault {
-        TextFault::Memory
-    }
-}
-
-impl<T: Drop> From<AllocFailed<T>> for TextFault {
-    fn from(_e: AllocFailed<T>) -> TextFault {
-        TextFault::Memory
-    }
+    #[error("there is no memory for it")]
+    Memory(#[from(alloc)] AllocError),
 }
 
 // The value of a hexadecimal digit.
@@ -43,31 +32,21 @@ pub fn digit(c: u8) -> Option<u8>
 
 // The bytes that a line of text writes.
 pub fn frame_bytes(heap: Global, text: &[u8]) -> Result<Vec<u8>, TextFault> {
-    let mut bytes = Vec::new(heap);
-    let mut high: Option<u8> = None;
-    for c in text {
-        if *c == b'#' {
-            break;
-        }
-        if *c == b' ' || *c == b'\t' || *c == b'\r' {
-            continue;
-        }
-        let value = match digit(*c) {
-            Some(value) => value,
-            None => return Err(TextFault::Character),
-        };
-        match high {
-            None => high = Some(value),
-            Some(first) => {
-                bytes.push((first & 15) * 16 + (value & 15))?;
-                high = None;
-            }
-        }
+    let digits = text
+        .iter()
+        .take_while(|c| **c != b'#')
+        .filter(|c| !matches!(**c, b' ' | b'\t' | b'\r'))
+        .map(|c| digit(*c).ok_or(TextFault::Character))
+        .try_collect::<Vec<u8>>(heap)?;
+    let (pairs, rest) = digits.as_slice().as_chunks::<2>();
+    if !rest.is_empty() {
+        return Err(TextFault::HalfByte);
     }
-    match high {
-        None => Ok(bytes),
-        Some(_) => Err(TextFault::HalfByte),
-    }
+    let bytes = pairs
+        .iter()
+        .map(|[high, low]| high << 4 | low)
+        .collect(heap)?;
+    Ok(bytes)
 }
 
 // Adds a frame to a sheet: its length byte and its bytes. A line without digits adds nothing.

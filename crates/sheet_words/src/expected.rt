@@ -1,5 +1,6 @@
-// What a refusal expected, in plain words.
+// What a refusal expected, in plain words. They are fixed texts: there is nothing to format.
 use heads::fault::SheetFault;
+use heads::kind::Kind;
 use sheet::lines::frame_at;
 
 fn expected_in_head(index: u8) -> &'static str {
@@ -14,20 +15,22 @@ fn expected_in_head(index: u8) -> &'static str {
     }
 }
 
-fn expected_in_shuffle(kind: u8, piles: u8, slots: u8, index: u8) -> &'static str {
+// In a frame of so many piles and slots, past these.
+fn expected_in_shuffle(kind: Kind, piles: u8, slots: u8, index: u8) -> &'static str {
     let end = 3 + u16::from(piles) * u16::from(slots);
     let at = u16::from(index);
     if at < end {
         "a place of the row that is not yet named"
     } else if at > end {
         "a weight of 1 or more, a slot that is not yet named, or the end of the frame"
-    } else if kind == 0x11 {
+    } else if kind == Kind::Cut {
         "the end of the frame"
     } else {
         "the number of entries, 1 to 8"
     }
 }
 
+// In a frame that turns so many places, past their number.
 fn expected_in_turn(turned: u8, index: u8) -> &'static str {
     let end = 2 + u16::from(turned);
     let at = u16::from(index);
@@ -41,25 +44,21 @@ fn expected_in_turn(turned: u8, index: u8) -> &'static str {
 }
 
 fn expected_in_frame(frame: &[u8], index: u8) -> &'static str {
-    match (frame, index) {
-        (_, 0) => "a kind: 10, 11, 13, 20, 30 or 31",
-        ([0x10, ..], _) => "a place of the row that is not yet named, or the end of the frame",
-        ([0x20, ..], 1) => "how many places are turned, at most all",
-        ([0x20, turned, ..], _) => expected_in_turn(*turned, index),
-        ([0x30, ..], 1) => "a place of the row",
-        ([0x30, ..], 2) => "another place of the row",
-        ([0x31, ..], 1) => "the bit 00 or 01",
-        ([0x11, ..], 1) => "the size of the piles, 1 to 12",
-        ([0x13, ..], 1) => "the size of the piles, 1 to 12",
-        ([0x11, ..], 2) => "the number of slots, 2 to 12, whose piles fit into the row",
-        ([0x13, ..], 2) => "the number of slots, 2 to 12, whose piles fit into the row",
-        ([kind, piles, slots, ..], _) => {
-            if *kind == 0x11 || *kind == 0x13 {
-                expected_in_shuffle(*kind, *piles, *slots, index)
-            } else {
-                "the end of the frame"
-            }
-        }
+    let kind = frame.first().and_then(|kind| Kind::try_from(*kind).ok());
+    match (kind, index, frame) {
+        (_, 0, _) => "a kind: 10, 11, 13, 20, 30 or 31",
+        (Some(Kind::Permute), _, _) =>
+            "a place of the row that is not yet named, or the end of the frame",
+        (Some(Kind::Turn), 1, _) => "how many places are turned, at most all",
+        (Some(Kind::Turn), _, [_, turned, ..]) => expected_in_turn(*turned, index),
+        (Some(Kind::Committed), 1, _) => "a place of the row",
+        (Some(Kind::Committed), 2, _) => "another place of the row",
+        (Some(Kind::Open), 1, _) => "the bit 00 or 01",
+        (Some(Kind::Cut | Kind::Explicit), 1, _) => "the size of the piles, 1 to 12",
+        (Some(Kind::Cut | Kind::Explicit), 2, _) =>
+            "the number of slots, 2 to 12, whose piles fit into the row",
+        (Some(kind @ (Kind::Cut | Kind::Explicit)), _, [_, piles, slots, ..]) =>
+            expected_in_shuffle(kind, *piles, *slots, index),
         _ => "the end of the frame",
     }
 }

@@ -1,8 +1,10 @@
 -- Where a number stands in a list, and lists without repeats.
-use Rattle.std.specs.Prelude.{◌≡◌, ℕ, zero, suc, ◌+◌, ◌<◌, ◌≤◌, Bool, true, false, cond, not, ◌&&◌, List, [], ◌∷◌, length, drop, ◌==◌, ◌≢◌, nat_eq, nat_le, nat_lt, slice_index, refl}
-use Rattle.std.proofs.Common.{sym, ap, subst, ◌∙◌, ⊎_elim, arith, add-one}
-use Rattle.std.proofs.lemmas.Bool.{cases_Bool, and_parts, and_from, leb-true, le-leb, eqb-true, eq-eqb, ne_eqb, cond-true, cond-false, or_cases, or_left, or_right, or_parts, not-true, both_ways, and_left, and_right, lt-leb, lt-ltb, le-ltb}
+use Rattle.std.specs.Prelude.{◌≡◌, ℕ, zero, suc, ◌+◌, ◌<◌, ◌≤◌, Bool, true, false, cond, not, ◌&&◌, Option, Some, None, MatchOption, List, [], ◌∷◌, length, drop, ◌==◌, ◌≢◌, nat_eq, nat_le, nat_lt, slice_index, refl}
+use Rattle.std.proofs.Common.{sym, ap, subst, ◌∙◌, ⊎_elim, arith, add-one, one-add}
+use Rattle.std.proofs.lemmas.Bool.{cases_Bool, and_parts, and_from, leb-true, le-leb, eqb-true, eq-eqb, ne_eqb, cond-true, cond-false, or_cases, or_left, or_right, or_parts, not-true, both_ways, and_left, and_right, lt-leb, lt-ltb, le-ltb, ltb-true}
 use Rattle.std.proofs.lemmas.List.{at_drop_more, at_drop_all}
+use Rattle.std.proofs.lemmas.List.Recursion.{is_position_or_len}
+use Rattle.std.specs.List.{position_or_len, position as first_position}
 use Rattle.cards.specs.Lists.{member, distinct, position}
 
 pub position_here : (x : ℕ) (xs : List ℕ) (i : ℕ) → i < length xs → slice_index xs i ≡ x → position x (drop i xs) ≡ 0
@@ -68,6 +70,21 @@ member_is x xs =
     (λ e. e ∙ sym (lt-ltb _ _ (position_below x xs e).0))
     (λ e. e ∙ sym (le-ltb _ _ (omega (arith, position_out x xs e))))
     (cases_Bool (member x xs))
+
+-- the first position by a test is the position, where there is one
+pub position_found : (n : ℕ) (xs : List ℕ) (r : Option ℕ) → r ≡ first_position (λ x. x == n) xs → MatchOption r (member n xs ≡ false) (λ i. (i ≡ position n xs) × (i < length xs))
+position_found n xs r e =
+    let is : position n xs ≡ position_or_len (λ x. x == n) xs = is_position_or_len (position n) (λ x. x == n) refl (λ x ys. ap (cond (x == n) 0) (sym (one-add (position n ys)))) xs in
+    let chosen : r ≡ cond (nat_lt (position n xs) (length xs)) (Some (position n xs)) None =
+    e ∙ ap (λ (k : ℕ). cond (nat_lt k (length xs)) (Some k) None) (sym is) in
+    ⊎_elim
+    (λ (h : nat_lt (position n xs) (length xs) ≡ true).
+    subst (λ (o : Option ℕ). MatchOption o (member n xs ≡ false) (λ i. (i ≡ position n xs) × (i < length xs)))
+    (sym (chosen ∙ cond-true _ _ _ h)) (refl, ltb-true _ _ h))
+    (λ (h : nat_lt (position n xs) (length xs) ≡ false).
+    subst (λ (o : Option ℕ). MatchOption o (member n xs ≡ false) (λ i. (i ≡ position n xs) × (i < length xs)))
+    (sym (chosen ∙ cond-false _ _ _ h)) (member_is n xs ∙ h))
+    (cases_Bool (nat_lt (position n xs) (length xs)))
 
 -- the test of the numbers from i on, by its parts
 pub distinct_step : (low high : ℕ) (xs : List ℕ) (i : ℕ) → i < length xs → distinct low high (drop i xs) ≡ ((nat_le low (slice_index xs i) && nat_le (slice_index xs i) high) && (not (member (slice_index xs i) (drop (i + 1) xs)) && distinct low high (drop (i + 1) xs)))

@@ -8,6 +8,7 @@ ghost use Rattle.std.proofs.lemmas.Bool.{cond_both};
 use crate::shuffle::Shuffle;
 use cards::place::Slot;
 use cards::row::Row;
+use std::array;
 
 pub trait Bank {
     // the meaning of the shuffle at each line
@@ -26,11 +27,7 @@ pub trait Bank {
     fn images(&self, line: u8, draw: u16) -> [u8; 12]
         ensures { result ≡ table 12 (image (at self.now line) draw) }
     {
-        let mut images = [0u8; 12];
-        for s in 0..12u8 {
-            images[usize::from(s)] = self.image(line, draw, Slot::at(s)).number();
-        }
-        images
+        array::from_fn(|s| self.image(line, draw, Slot::at(s as u8)).number())
     }
 
     ghost lawful: { (b : Self) (line : ℕ) → LawfulShuffle (at b line) };

@@ -1,5 +1,5 @@
 // Who holds a list of bytes: a slice lent by a sheet, or a vector. A shuffle reads its list through this, so that it can
-// borrow the list or own it.
+// borrow the list or own it. It is a trait of its own, since `AsRef` has no word for the list that a value holds.
 ghost use Rattle.std.specs.Prelude.{◌≡◌, ℕ, List};
 
 pub trait Bytes {

@@ -17,7 +17,7 @@ impl Cut {
     pub fn fits(&self) -> bool
         ensures { result ≡ cut_fits self.now.slots }
     {
-        self.slots >= 1 && self.slots <= 12
+        (1..=12).contains(&self.slots)
     }
 }
 

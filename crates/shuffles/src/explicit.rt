@@ -67,11 +67,10 @@ impl<L: Bytes> Explicit<L> {
     pub fn draws(&self) -> Option<u16>
         ensures { MatchOption result (entries_fit self.now.slots (entries_of self.now.slots (L.Bytes.listed self.now.entries)) ≡ false) (λ t. (entries_fit self.now.slots (entries_of self.now.slots (L.Bytes.listed self.now.entries)) ≡ true) × (t ≡ weights (entries_of self.now.slots (L.Bytes.listed self.now.entries)))) }
     {
-        if self.slots < 1 || self.slots > 12 {
+        if !(1..=12).contains(&self.slots) {
             return None;
         }
-        let total = total_of(self.slots, self.entries.bytes())?;
-        if total >= 1 { Some(total) } else { None }
+        total_of(self.slots, self.entries.bytes()).filter(|total| *total >= 1)
     }
 }
 
@@ -95,14 +94,13 @@ impl<L: Bytes> Shuffle for Explicit<L> {
     fn image(&self, draw: u16, slot: Slot) -> Slot {
         let s = slot.number();
         match self.draws() {
-            Some(total) => {
-                if draw < total && s < self.slots {
-                    Slot::at(image_in(self.slots, self.entries.bytes(), draw, s))
-                } else {
-                    slot
-                }
-            }
-            None => slot,
+            Some(total) if draw < total && s < self.slots => Slot::at(image_in(
+                self.slots,
+                self.entries.bytes(),
+                draw,
+                s,
+            )),
+            _ => slot,
         }
     }
 }

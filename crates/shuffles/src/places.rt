@@ -25,8 +25,7 @@ impl<L: Bytes, S: Shuffle> Places<L, S> {
         ensures { result ≡ places_fit self.now.cards (L.Bytes.listed self.now.places) (S.Shuffle.means self.now.below) }
     {
         let places = self.places.bytes();
-        self.cards >= 1
-            && self.cards <= 12
+        (1..=12).contains(&self.cards)
             && places.len() == usize::from(self.below.width())
             && all_distinct(1, self.cards, places)
     }
@@ -54,10 +53,9 @@ impl<L: Bytes, S: Shuffle> Shuffle for Places<L, S> {
             return slot;
         }
         let places = self.places.bytes();
-        let r = find(slot.place().number(), places);
-        if r >= places.len() {
+        let Some(r) = find(slot.place().number(), places) else {
             return slot;
-        }
+        };
         let to = self.below.image(draw, Slot::at(r as u8)).number();
         Place::at(places[usize::from(to)]).slot()
     }

@@ -4,6 +4,9 @@ use Rattle.script.specs.Faults.{Fault}
 use Rattle.script.specs.declared.fault.Layer.TheVariants.{Table}
 use Rattle.table.specs.declared.fault.TableFault.{TableFault}
 use Rattle.table.specs.declared.fault.TableFault.TheVariants.{NotLaid, NotEmpty, NoInput, Ended, OtherKind, Draw, RecordFull, Unread}
+use Rattle.table.specs.declared.phase.Phase.{Phase}
+use Rattle.table.specs.declared.phase.Phase.TheVariants.{Empty, Running}
+use Rattle.table.specs.declared.phase.Phase.TheVariants as phase
 
 abbrev pub table_fault : ℕ → ℕ → Fault
 table_fault number line = record { number = number; layer = Table; line = line; place = 0 }
@@ -17,3 +20,9 @@ shown (OtherKind line) = table_fault 28 line
 shown (Draw line) = table_fault 29 line
 shown (RecordFull line) = table_fault 30 line
 shown (Unread line) = table_fault 31 line
+
+-- what a step, a turn or a finish is refused for where the table's phase or its line is not for the call
+abbrev pub not_fit : Phase → ℕ → TableFault
+not_fit Empty line = NotLaid line
+not_fit Running line = OtherKind line
+not_fit phase.Ended line = Ended line

@@ -3,8 +3,6 @@
 use Rattle.std.specs.Prelude.{◌≡◌, ℕ, ◌^◌, ◌<◌, List, [], Ok, Err, Result}
 use Rattle.cards.specs.Decks.{DeckMeaning}
 use Rattle.cards.specs.Shuffles.{ShuffleMeaning}
-use Rattle.cards.specs.declared.reading.Reading.{Reading}
-use Rattle.cards.specs.declared.reading.Reading.TheVariants.{Zero, One, Neither}
 use Rattle.cards.specs.declared.row.Row.{Row}
 use Rattle.protocol.specs.Machine.{Protocol, laid}
 use Rattle.protocol.specs.Table as model
@@ -14,7 +12,6 @@ use Rattle.sheet.specs.declared.states.CheckedScript.{CheckedScript}
 use Rattle.table.specs.Faults.{shown}
 use Rattle.table.specs.Phases.{phase_of}
 use Rattle.table.specs.declared.fault.TableFault.{TableFault}
-use Rattle.table.specs.declared.fault.TableFault.TheVariants.{Unread}
 use Rattle.table.specs.declared.phase.Phase.{Phase}
 use Rattle.table.specs.declared.phase.Phase.TheVariants.{Empty, Running, Ended}
 use Rattle.table.specs.declared.table.Table.{Table}
@@ -31,7 +28,7 @@ tabled phase line cards written =
     record { phase = phase_of phase; line = line; cards = held phase cards; written = written }
 
 abbrev pub table_of : Table → model.Table
-table_of t = tabled t.phase t.line t.cards.cards t.written
+table_of t = tabled t.at.phase t.at.line t.cards.cards t.at.written
 
 abbrev pub where_of : Whereabouts → model.Whereabouts
 where_of w = record { phase = phase_of w.phase; line = w.line; written = w.written }
@@ -96,9 +93,3 @@ Stays (Err e) before after = after ≡ before
 pub record LaidFor (s : CheckedScript) (deck : DeckMeaning) (number : ℕ) (row : Row) : Type 0 where
   pub input : number < 2 ^ (script s).players
   pub cards : (bank : ℕ → ShuffleMeaning) → row.cards ≡ laid (played s deck bank) number
-
--- how a reading ends a run: a bit does, and is answered; neither is refused
-abbrev pub EndedBy : Reading → ℕ → Result ℕ TableFault → Phase → Phase → Type 0
-EndedBy Zero line r before after = (r ≡ Ok 0) × (after ≡ Ended)
-EndedBy One line r before after = (r ≡ Ok 1) × (after ≡ Ended)
-EndedBy Neither line r before after = (r ≡ Err (Unread line)) × (after ≡ before)

@@ -17,7 +17,6 @@ impl Commitment {
     pub(crate) fn spent(self) -> u8
         ensures { result ≡ self.number }
     {
-        let Commitment { number } = self;
-        number
+        self.number
     }
 }

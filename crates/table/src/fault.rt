@@ -1,8 +1,7 @@
 // What a call at the table is turned down for.
-ghost use Rattle.std.specs.Prelude.{◌≡◌};
 ghost use Rattle.table.specs.Faults.{shown};
 
-use script::fault::Layer;
+use script::fault::{Layer, Refusal};
 
 // Each case has the table's line.
 #[derive(Clone, Copy, PartialEq, Eq, Debug)]
@@ -25,10 +24,10 @@ pub enum TableFault {
     Unread { line: u8 },
 }
 
-impl TableFault {
-    pub fn number(&self) -> u8
-        ensures { result ≡ (shown self.now).number }
-    {
+impl Refusal for TableFault {
+    ghost names = { shown };
+
+    fn number(&self) -> u8 {
         match self {
             TableFault::NotLaid { .. } => 24,
             TableFault::NotEmpty { .. } => 25,
@@ -41,30 +40,24 @@ impl TableFault {
         }
     }
 
-    pub fn layer(&self) -> Layer
-        ensures { result ≡ (shown self.now).layer }
-    {
+    fn layer(&self) -> Layer {
         Layer::Table
     }
 
-    pub fn line(&self) -> u8
-        ensures { result ≡ (shown self.now).line }
-    {
+    fn line(&self) -> u8 {
         match self {
-            TableFault::NotLaid { line } => *line,
-            TableFault::NotEmpty { line } => *line,
-            TableFault::NoInput { line } => *line,
-            TableFault::Ended { line } => *line,
-            TableFault::OtherKind { line } => *line,
-            TableFault::Draw { line } => *line,
-            TableFault::RecordFull { line } => *line,
-            TableFault::Unread { line } => *line,
+            TableFault::NotLaid { line }
+            | TableFault::NotEmpty { line }
+            | TableFault::NoInput { line }
+            | TableFault::Ended { line }
+            | TableFault::OtherKind { line }
+            | TableFault::Draw { line }
+            | TableFault::RecordFull { line }
+            | TableFault::Unread { line } => *line,
         }
     }
 
-    pub fn place(&self) -> u16
-        ensures { result ≡ (shown self.now).place }
-    {
+    fn place(&self) -> u16 {
         0
     }
 }

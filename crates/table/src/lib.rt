@@ -2,10 +2,9 @@
 #![tactic(auto)]
 
 pub mod commitment;
-mod ending;
 pub mod fault;
 mod laying;
 mod moves;
 pub mod phase;
-mod recording;
+mod said;
 pub mod table;

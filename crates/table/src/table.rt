@@ -1,40 +1,54 @@
 // A table: a certified script and where its run stands.
 ghost use Rattle.std.specs.Prelude.{◌≡◌, replicate};
 ghost use Rattle.protocol.specs.Table.{empty_table};
+ghost use Rattle.table.specs.Faults.{not_fit};
 ghost use Rattle.table.specs.Views.{table_of, Laid, Stepped, Turned, Finished, Stands, Stays};
 
 use crate::commitment::Commitment;
-use crate::ending::{end_phase, read_bit};
 use crate::fault::TableFault;
 use crate::laying::lay_cards;
 use crate::moves::{permute_row, shuffle_row};
 use crate::phase::Phase;
-use crate::recording::write_marks;
 use cards::deck::Deck;
 use cards::place::Place;
+use cards::reading::Reading;
 use cards::row::Row;
 use certifier::certified::CertifiedScript;
 use line_parts::branch::target_of;
-use line_parts::marks::{card_at, marks_at};
+use line_parts::marks::write_marks;
+use rows::marks::{card_at, marks_at};
 use sheet::action::Action;
 use shuffles::bank::Bank;
 
-// The phase, the line, the cards that lie, and how many bytes of the record are written.
-#[derive(Drop)]
-pub struct Table {
-    script: CertifiedScript,
-    phase: Phase,
-    line: u8,
-    cards: Row,
-    written: usize,
-}
-
-// Where a table stands: the line is 0 while it is empty.
+// Where a table stands: its phase, the line, which is 0 while it is empty as in the model, and how many bytes of the
+// record are written.
 #[derive(Clone, Copy, PartialEq, Eq, Debug)]
 pub struct Whereabouts {
     pub phase: Phase,
     pub line: u8,
     pub written: usize,
+}
+
+impl Whereabouts {
+    // Why the line's action is not for a call that is made now.
+    fn misfit(self) -> TableFault
+        ensures { result ≡ not_fit self.phase self.line }
+    {
+        let line = self.line;
+        match self.phase {
+            Phase::Empty => TableFault::NotLaid { line },
+            Phase::Running => TableFault::OtherKind { line },
+            Phase::Ended => TableFault::Ended { line },
+        }
+    }
+}
+
+// The script, where its run stands, and the cards that lie.
+#[derive(Drop)]
+pub struct Table {
+    script: CertifiedScript,
+    at: Whereabouts,
+    cards: Row,
 }
 
 impl Table {
@@ -46,10 +60,12 @@ impl Table {
     {
         Table {
             script,
-            phase: Phase::Empty,
-            line: 0,
+            at: Whereabouts {
+                phase: Phase::Empty,
+                line: 0,
+                written: 0,
+            },
             cards: Row { cards: [0; 12] },
-            written: 0,
         }
     }
 
@@ -59,20 +75,18 @@ impl Table {
         ensures kept { self.new.script ≡ self.old.script }
         ensures stays { Stays result self.old self.new }
     {
-        let number = commitment.spent();
-        let line = self.line;
-        match (self.phase, self.script.script().action(line)) {
-            (Phase::Empty, _) => match lay_cards(self.script.script(), deck, number) {
-                Some(cards) => {
-                    self.phase = Phase::Running;
-                    self.line = 2;
-                    self.cards = cards;
-                    Ok(2)
-                }
-                None => Err(TableFault::NoInput { line }),
-            },
-            (Phase::Running, _) => Err(TableFault::NotEmpty { line }),
-            (Phase::Ended, _) => Err(TableFault::NotEmpty { line }),
+        let Table { script, at, cards } = self;
+        let line = at.line;
+        match (at.phase, script.script().action(line)) {
+            (Phase::Empty, _) => {
+                *cards = lay_cards(script.script(), deck, commitment.spent()).ok_or(
+                    TableFault::NoInput { line },
+                )?;
+                at.phase = Phase::Running;
+                at.line = 2;
+                Ok(2)
+            }
+            _ => Err(TableFault::NotEmpty { line }),
         }
     }
 
@@ -82,37 +96,30 @@ impl Table {
         ensures kept { self.new.script ≡ self.old.script }
         ensures stays { Stays result self.old self.new }
     {
-        let line = self.line;
-        match (self.phase, self.script.script().action(line)) {
-            (Phase::Empty, _) => Err(TableFault::NotLaid { line }),
-            (Phase::Ended, _) => Err(TableFault::Ended { line }),
+        let Table { script, at, cards } = self;
+        let line = at.line;
+        let (row, next) = match (at.phase, script.script().action(line)) {
             (Phase::Running, Action::Permute { places, next }) => {
                 if draw >= 1 {
                     return Err(TableFault::Draw { line });
                 }
-                let row = permute_row(places, self.cards);
-                self.cards = row;
-                self.line = next;
-                Ok(next)
+                (permute_row(places, *cards), next)
             }
             (Phase::Running, Action::Shuffle { total, next }) => {
                 if draw >= total {
                     return Err(TableFault::Draw { line });
                 }
-                let head = self.script.script().head();
-                let row = shuffle_row(bank, line, head.cards, total, draw, self.cards);
-                self.cards = row;
-                self.line = next;
-                Ok(next)
+                let head = script.script().head();
+                (
+                    shuffle_row(bank, line, head.cards, total, draw, *cards),
+                    next,
+                )
             }
-            (
-                Phase::Running,
-                Action::Turn { .. }
-                | Action::Committed { .. }
-                | Action::Open { .. }
-                | Action::Nothing,
-            ) => { Err(TableFault::OtherKind { line }) }
-        }
+            _ => return Err(at.misfit()),
+        };
+        *cards = row;
+        at.line = next;
+        Ok(next)
     }
 
     // Turns the cards that the line names, appends their marks to the record, and answers the target line and the bytes
@@ -122,35 +129,23 @@ impl Table {
         ensures kept { self.new.script ≡ self.old.script }
         ensures stays { Stays result self.old self.new }
     {
-        let line = self.line;
-        match (self.phase, self.script.script().action(line)) {
-            (Phase::Empty, _) => Err(TableFault::NotLaid { line }),
-            (Phase::Ended, _) => Err(TableFault::Ended { line }),
+        let Table { script, at, cards } = self;
+        let line = at.line;
+        match (at.phase, script.script().action(line)) {
             (Phase::Running, Action::Turn { places, branches }) => {
                 let turned = places.len();
-                if record.len().saturating_sub(self.written) < turned {
+                if record.len().saturating_sub(at.written) < turned {
                     return Err(TableFault::RecordFull { line });
                 }
-                let marks = marks_at(self.cards.cards, places);
-                match target_of(turned, branches, &marks[0..turned]) {
-                    Some(target) => {
-                        let written = self.written + turned;
-                        write_marks(record, self.written, &marks[0..turned]);
-                        self.line = target;
-                        self.written = written;
-                        Ok((target, written))
-                    }
-                    None => Err(TableFault::Unread { line }),
-                }
+                let marks = marks_at(cards.cards, places);
+                let marks = &marks[0..turned];
+                let target = target_of(turned, branches, marks).ok_or(TableFault::Unread { line })?;
+                write_marks(record, at.written, marks);
+                at.line = target;
+                at.written += turned;
+                Ok((target, at.written))
             }
-            (
-                Phase::Running,
-                Action::Permute { .. }
-                | Action::Shuffle { .. }
-                | Action::Committed { .. }
-                | Action::Open { .. }
-                | Action::Nothing,
-            ) => { Err(TableFault::OtherKind { line }) }
+            _ => Err(at.misfit()),
         }
     }
 
@@ -160,39 +155,26 @@ impl Table {
         ensures kept { self.new.script ≡ self.old.script }
         ensures stays { Stays result self.old self.new }
     {
-        let line = self.line;
-        match (self.phase, self.script.script().action(line)) {
-            (Phase::Empty, _) => Err(TableFault::NotLaid { line }),
-            (Phase::Ended, _) => Err(TableFault::Ended { line }),
+        let Table { script, at, cards } = self;
+        let line = at.line;
+        let reading = match (at.phase, script.script().action(line)) {
             (Phase::Running, Action::Committed { left, right }) => {
-                let left = card_at(self.cards.cards, Place::at(left));
-                let right = card_at(self.cards.cards, Place::at(right));
-                let reading = deck.read(left, right);
-                end_phase(&mut self.phase, line, reading)
+                let left = card_at(cards.cards, Place::at(left));
+                let right = card_at(cards.cards, Place::at(right));
+                deck.read(left, right)
             }
-            (Phase::Running, Action::Open { value }) => end_phase(
-                &mut self.phase,
-                line,
-                read_bit(value),
-            ),
-            (
-                Phase::Running,
-                Action::Permute { .. }
-                | Action::Shuffle { .. }
-                | Action::Turn { .. }
-                | Action::Nothing,
-            ) => { Err(TableFault::OtherKind { line }) }
-        }
+            (Phase::Running, Action::Open { value }) => Reading::of_bit(value),
+            _ => return Err(at.misfit()),
+        };
+        let output = reading.bit().ok_or(TableFault::Unread { line })?;
+        at.phase = Phase::Ended;
+        Ok(output)
     }
 
     // Where the table stands. This is never refused.
     pub fn whereabouts(&self) -> Whereabouts
         ensures { Stands self.now result }
     {
-        Whereabouts {
-            phase: self.phase,
-            line: self.line,
-            written: self.written,
-        }
+        self.at
     }
 }

@@ -1,11 +1,10 @@
 // A table lent another deck or bank than its script was certified with.
 #![tactic(auto)]
 
-ghost use Rattle.std.specs.Prelude.{◌≡◌};
 ghost use Rattle.table_tests.specs.Own.{raised};
 ghost use Rattle.std.proofs.Common.{rules};
 
-use cards::deck::Deck;
+use cards::deck::{Deck, TwoColour};
 use cards::reading::Reading;
 
 mod tests;
@@ -14,23 +13,13 @@ mod tests;
 #[derive(Clone, Copy)]
 pub struct Raised;
 
-fn player_card(code: u8, input: u8) -> u8
-    ensures { result ≡ raised.card code input }
-{
-    if code < 16 || code >= 22 {
-        return 2;
-    }
-    let bit = (input >> ((code - 16) / 2)) % 2;
-    if code % 2 == 0 { 2 + bit } else { 3 - bit }
-}
-
 impl Deck for Raised {
     ghost means = { λ _. raised };
 
     ghost lawful = { Prim.search rules };
 
     fn may_lie(&self, players: u8, code: u8) -> bool {
-        code >= 16 && code < 22 && u16::from(code) < 16 + 2 * u16::from(players)
+        (16..22).contains(&code) && TwoColour.may_lie(players, code)
     }
 
     fn may_repeat(&self, _players: u8, _code: u8) -> bool {
@@ -38,16 +27,18 @@ impl Deck for Raised {
     }
 
     fn card(&self, code: u8, input: u8) -> u8 {
-        player_card(code, input)
+        if (16..22).contains(&code) {
+            2 + TwoColour.card(code, input)
+        } else {
+            2
+        }
     }
 
     fn read(&self, left: u8, right: u8) -> Reading {
-        if left == 2 && right == 3 {
-            Reading::Zero
-        } else if left == 3 && right == 2 {
-            Reading::One
-        } else {
-            Reading::Neither
+        match (left, right) {
+            (2, 3) => Reading::Zero,
+            (3, 2) => Reading::One,
+            _ => Reading::Neither,
         }
     }
 }

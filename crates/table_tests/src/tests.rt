@@ -7,6 +7,7 @@ mod lent {
     use certifier::certifying::certify;
     use certifier::making::into_certified;
     use rows::row::Row;
+    use script::fault::Refusal;
     use sheet::states::{CheckedScript, Sheet};
     use shuffles::bank::Everywhere;
     use shuffles::explicit::Explicit;
@@ -37,9 +38,8 @@ mod lent {
         let script = checked(heap)?;
         let bank = script.copied(heap)?;
         let mut bench = [Row::zero(); 10];
-        let certificate = match certify(&script, &TwoColour, &bank, &mut bench) {
-            Ok(certificate) => certificate,
-            Err(_) => return Err(Fail::new("the tree is not built")),
+        let Ok(certificate) = certify(&script, &TwoColour, &bank, &mut bench) else {
+            return Err(Fail::new("the tree is not built"));
         };
         if !certificate.is_faultless() {
             return Err(Fail::new("the script is not certified"));
@@ -50,23 +50,18 @@ mod lent {
         ))
     }
 
-    fn number_of<T>(answer: Result<T, TableFault>) -> u8
-    where
-        T: Drop,
-    {
-        match answer {
-            Ok(_) => 0,
-            Err(fault) => fault.number(),
-        }
+    // the number of the refusal, none where the call is granted
+    fn refused<T: Drop>(answer: Result<T, TableFault>) -> Option<u8> {
+        answer.err().map(|fault| fault.number())
     }
 
     #[test]
     fn cards_of_another_deck(rt: HostRuntime) -> Result<(), Fail> {
         let (mut table, bank) = opened(rt.alloc())?;
         let mut page = [9u8; 4];
-        assert_eq!(rt; number_of(table.lay(&Standard, commit(0))), 0);
-        assert_eq!(rt; number_of(table.step(&bank, 1)), 0);
-        assert_eq!(rt; number_of(table.turn(&mut page)), 31);
+        assert_eq!(rt; refused(table.lay(&Standard, commit(0))), None);
+        assert_eq!(rt; refused(table.step(&bank, 1)), None);
+        assert_eq!(rt; refused(table.turn(&mut page)), Some(31));
         assert_eq!(rt; page, [9, 9, 9, 9]);
         assert_eq!(rt; table.whereabouts().line, 3);
         assert_eq!(rt; table.whereabouts().written, 0);
@@ -77,13 +72,13 @@ mod lent {
     fn a_pair_of_another_deck(rt: HostRuntime) -> Result<(), Fail> {
         let (mut table, bank) = opened(rt.alloc())?;
         let mut page = [9u8; 4];
-        assert_eq!(rt; number_of(table.lay(&TwoColour, commit(1))), 0);
-        assert_eq!(rt; number_of(table.step(&bank, 1)), 0);
-        assert_eq!(rt; number_of(table.turn(&mut page)), 0);
+        assert_eq!(rt; refused(table.lay(&TwoColour, commit(1))), None);
+        assert_eq!(rt; refused(table.step(&bank, 1)), None);
+        assert_eq!(rt; refused(table.turn(&mut page)), None);
         assert_eq!(rt; page, [0, 1, 9, 9]);
-        assert_eq!(rt; number_of(table.finish(&Raised)), 31);
+        assert_eq!(rt; refused(table.finish(&Raised)), Some(31));
         assert_eq!(rt; table.whereabouts().phase, Phase::Running);
-        assert_eq!(rt; number_of(table.finish(&TwoColour)), 0);
+        assert_eq!(rt; refused(table.finish(&TwoColour)), None);
         assert_eq!(rt; table.whereabouts().phase, Phase::Ended);
         Ok(())
     }
@@ -97,9 +92,9 @@ mod lent {
         let other = Everywhere {
             shuffle: Explicit { slots: 4, entries },
         };
-        assert_eq!(rt; number_of(table.lay(&TwoColour, commit(0))), 0);
-        assert_eq!(rt; number_of(table.step(&other, 1)), 0);
-        assert_eq!(rt; number_of(table.turn(&mut page)), 31);
+        assert_eq!(rt; refused(table.lay(&TwoColour, commit(0))), None);
+        assert_eq!(rt; refused(table.step(&other, 1)), None);
+        assert_eq!(rt; refused(table.turn(&mut page)), Some(31));
         assert_eq!(rt; page, [9, 9]);
         Ok(())
     }
@@ -113,10 +108,10 @@ mod lent {
         let other = Everywhere {
             shuffle: Explicit { slots: 4, entries },
         };
-        assert_eq!(rt; number_of(table.lay(&TwoColour, commit(2))), 0);
-        assert_eq!(rt; number_of(table.step(&other, 2)), 29);
-        assert_eq!(rt; number_of(table.step(&other, 1)), 0);
-        assert_eq!(rt; number_of(table.turn(&mut page)), 0);
+        assert_eq!(rt; refused(table.lay(&TwoColour, commit(2))), None);
+        assert_eq!(rt; refused(table.step(&other, 2)), Some(29));
+        assert_eq!(rt; refused(table.step(&other, 1)), None);
+        assert_eq!(rt; refused(table.turn(&mut page)), None);
         assert_eq!(rt; page, [0, 1]);
         Ok(())
     }

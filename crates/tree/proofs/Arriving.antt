@@ -1,27 +1,16 @@
 -- Lines that a walk arrives at, and the totals of the states there.
-use Rattle.std.proofs.Common.{◌≡◌, ℕ, ◌*◌, ◌<◌, ◌≤◌, Bool, true, false, cond, ◌||◌, eqb, List, [], ◌∷◌, ◌++◌, length, Some, None, Option, refl, ap, ◌∙◌, subst, mul_comm, mul-le-mul_left, le-mul_of_pos_right, arith}
+use Rattle.std.proofs.Common.{◌≡◌, ℕ, ◌*◌, ◌<◌, ◌≤◌, Bool, true, false, cond, ◌||◌, eqb, List, [], ◌∷◌, length, Some, None, Option, refl, ap, subst, mul_comm, mul-le-mul_left, le-mul_of_pos_right, arith}
 use Rattle.std.proofs.lemmas.Bool.{eq-eqb}
-use Rattle.std.proofs.lemmas.List.{length-take}
-use Rattle.std.specs.List.{flat_map, AllByRecursion}
+use Rattle.std.specs.List.{AllByRecursion}
 use Rattle.script.specs.Model.{Action, Branch, permute, shuffle, turn, committed, opened, none, LawfulAction, LawfulBranch, Onward}
 use Rattle.protocol.specs.Machine.{same, target}
 use Rattle.protocol.specs.States.{Row, total_of}
-use Rattle.heads.specs.declared.head.Head.{Head}
-use Rattle.format.specs.Parts.{parts}
 use Rattle.rows.specs.declared.row.Row as code
 use Rattle.rows.specs.Views.{Small, Put}
 use Rattle.sheet.specs.declared.states.CheckedScript.{CheckedScript}
-use Rattle.sheet.specs.Lines.{frame, line_count}
 use Rattle.sheet.specs.Products.{onward, total, leads, targets}
-use Rattle.sheet.specs.Scripts.{head, action_of}
-use Rattle.sheet.specs.Sheets.{script, script_bytes}
-use Rattle.sheet.specs.Verdicts.{verdict}
-use Rattle.sheet.specs.Lawful.{line_kept}
-use Rattle.sheet.specs.Passed.{not_some}
-use Rattle.writing.specs.Writing as writing
-use Rattle.writing.specs.Writing.{Line, line_bytes, branch_bytes, KeepsLine}
-use Rattle.writing.proofs.Frames.{line_reads}
-use Rattle.tree.specs.Walks.{Standing, Arrived, Held}
+use Rattle.sheet.specs.Sheets.{script}
+use Rattle.tree.specs.Walks.{Arrived, Held}
 
 some_draws : (n lines l : ℕ) (a : Action) → LawfulAction n lines l a → 1 ≤ total a
 some_draws n lines l (permute images next) h = omega arith
@@ -93,34 +82,3 @@ target_onward lines l t marks (b ∷ bs) x h e = go (same b.marks marks) e (targ
     go : (u : Bool) → cond u (Some b.target) (target marks bs) ≡ Some x → (target marks bs ≡ Some x → Onward lines l x) → Onward lines l x
     go true f ih = let k : b.target ≡ x = cc in subst (Onward lines l) k h.0.onward
     go false f ih = ih f
-
--- a turn has at most twelve places
-abbrev turn_places : Action → List ℕ
-turn_places (permute images next) = []
-turn_places (shuffle draws next) = []
-turn_places (turn places branches) = places
-turn_places (committed left right) = []
-turn_places (opened value) = []
-turn_places none = []
-
-line_places : (h : Head) (lines line : ℕ) (x : Line) → KeepsLine h lines line x → length (turn_places (action_of line (parts (line_bytes x)))) ≤ h.cards
-line_places h lines line (writing.permute ps) k = omega arith
-line_places h lines line (writing.cut m q ps) k = omega arith
-line_places h lines line (writing.explicit m q ps es) k = omega arith
-line_places h lines line (writing.turn ps bs) k =
-    let t = length-take (length ps) (ps ++ length bs ∷ flat_map branch_bytes bs) in
-    let f = k.few in
-    omega arith
-line_places h lines line (writing.committed a b) k = omega arith
-line_places h lines line (writing.opened v) k = omega arith
-
-pub few_places : (s : CheckedScript) (line : ℕ) → Standing s line → (places : List ℕ) (bs : List Branch) → (script s).action line ≡ turn places bs → length places ≤ 12
-few_places s line h places bs e =
-    let sheet : List ℕ = script_bytes s in
-    let v : verdict sheet ≡ None = not_some _ s.passes in
-    let r = line_reads (head sheet) (line_count sheet) line h.from_two (let l = h.there in omega arith) (frame sheet line) (line_kept sheet v line h.from_two h.there) in
-    let same : length (turn_places (action_of line (parts (line_bytes r.0)))) ≡ length places
-    = ap (λ (b : List ℕ). length (turn_places (action_of line (parts b)))) r.1.0 ∙ ap (λ (a : Action). length (turn_places a)) e in
-    let k = line_places (head sheet) (line_count sheet) line r.0 r.1.1 in
-    let few = h.lawful.few_cards in
-    omega arith

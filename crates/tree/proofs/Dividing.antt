@@ -1,5 +1,7 @@
 -- The first number that passes a test, and the classes that are divided by it.
-use Rattle.std.proofs.Common.{◌≡◌, ℕ, zero, suc, ◌+◌, ◌-◌, ◌^◌, ◌<◌, ◌≤◌, Bool, true, false, cond, ◌&&◌, eqb, List, get_or, take, sym, refl, ap, ◌∙◌, arith}
+use Rattle.std.proofs.Common.{◌≡◌, ℕ, zero, suc, ◌+◌, ◌^◌, ◌≤◌, Bool, true, false, cond, ◌&&◌, eqb, List, get_or, take, Some, None, Option, find, refl, ap, ◌∙◌, add-one, arith}
+use Rattle.std.specs.Option.{unwrap_or, option_map}
+use Rattle.std.specs.List.{range_with_len}
 use Rattle.cards.specs.Lists.{table}
 use Rattle.protocol.specs.Machine.{Protocol, inputs}
 use Rattle.protocol.specs.States.{Row, total_of, totals}
@@ -8,24 +10,19 @@ use Rattle.tree.specs.declared.certificate.Classes.{Classes}
 use Rattle.tree.specs.Certificates.{class_list}
 use Rattle.tree.specs.Walks.{together}
 
-found : (n c : ℕ) (test : ℕ → Bool) → 0 < n → test c ≡ true → first_from n c test ≡ c
-found zero c test h e = absurd (omega arith)
-found (suc k) c test h e = ap (λ (t : Bool). cond t c (first_from k (suc c) test)) e
+-- what is found among the numbers from one on, or else the one after them
+pub first_of : (n c d : ℕ) (test : ℕ → Bool) → d ≡ c + n → unwrap_or (find test (range_with_len c n)) d ≡ first_from n c test
+first_of zero c d test e = omega arith
+first_of (suc n) c d test e = go (test c) (first_of n (c + 1) d test (omega arith))
+  where
+    go : (t : Bool) → unwrap_or (find test (range_with_len (c + 1) n)) d ≡ first_from n (c + 1) test
+        → unwrap_or (cond t (Some c) (find test (range_with_len (c + 1) n))) d ≡ cond t c (first_from n (suc c) test)
+    go true h = refl
+    go false h = h ∙ ap (λ (k : ℕ). first_from n k test) (add-one c)
 
-on : (n m c d : ℕ) (test : ℕ → Bool) → n ≡ suc m → d ≡ suc c → test c ≡ false → first_from n c test ≡ first_from m d test
-on n m c d test e s f =
-    ap (λ (k : ℕ). first_from k c test) e
-    ∙ ap (λ (t : Bool). cond t c (first_from m (suc c) test)) f
-    ∙ ap (λ (k : ℕ). first_from m k test) (sym s)
-
-pub first_found : (b c : ℕ) (test : ℕ → Bool) → c < b → test c ≡ true → first_from (b - c) c test ≡ c
-first_found b c test h e = found (b - c) c test (omega arith) e
-
-pub first_on : (b c : ℕ) (test : ℕ → Bool) → c < b → test c ≡ false → first_from (b - c) c test ≡ first_from (b - (c + 1)) (c + 1) test
-first_on b c test h f = on (b - c) (b - (c + 1)) c (c + 1) test (omega arith) (omega arith) f
-
-pub first_none : (b c : ℕ) (test : ℕ → Bool) → c ≡ b → first_from (b - c) c test ≡ b
-first_none b c test e = ap (λ (k : ℕ). first_from k c test) (let z : b - c ≡ 0 = omega arith in z) ∙ e
+pub first_found : (r : Option ℕ) (b : ℕ) (test : ℕ → Bool) → option_map (λ x. x) r ≡ find test (range_with_len 0 b) → unwrap_or r b ≡ first_from b 0 test
+first_found None b test e = ap (λ (o : Option ℕ). unwrap_or o b) e ∙ first_of b 0 b test (omega arith)
+first_found (Some x) b test e = ap (λ (o : Option ℕ). unwrap_or o b) e ∙ first_of b 0 b test (omega arith)
 
 -- of the eight classes so divided, the first so many are the definition's
 module _ (c : Classes) (rows : List Row) where

@@ -1,6 +1,5 @@
 -- A state that was put into the room, and the node that it is of.
-use Rattle.std.proofs.Common.{◌≡◌, ℕ, ◌-◌, ◌*◌, ◌<◌, ◌≤◌, true, List, ◌++◌, length, take, Some, Option, Result, sym, refl, ap, ◌∙◌, subst, arith}
-use native.Mathlib.Nat.{sub-zero}
+use Rattle.std.proofs.Common.{◌≡◌, ℕ, ◌*◌, ◌<◌, ◌≤◌, true, List, length, take, Some, Option, Result, sym, refl, subst, arith}
 use Rattle.std.proofs.lemmas.Bool.{eq-eqb}
 use Rattle.script.specs.Model.{Action, Branch, permute, shuffle, turn, LawfulAction, Onward}
 use Rattle.protocol.specs.Machine.{Protocol, Mixing, Trace, action_at, target}
@@ -16,13 +15,6 @@ use Rattle.tree.specs.Walks.{node_at, Arrived, Reached, Entered, Held, Made, Bel
 use Rattle.tree.proofs.Arriving.{acts, arrived_next, held, put_fits, target_leads, target_onward}
 use Rattle.tree.proofs.Growing.{below_mixed}
 use Rattle.tree.proofs.Turning.{turn_facts}
-
--- the part of the marks that the code takes
-pub cut : (n : ℕ) (marks : List ℕ) → take (n - 0) marks ≡ take n marks
-cut n marks = ap (λ (k : ℕ). take k marks) (sub-zero n)
-
-pub cut_target : (n : ℕ) (marks : List ℕ) (branches : List Branch) (answer next : Option ℕ) → answer ≡ target (take (n - 0) marks) branches → answer ≡ next → target (take n marks) branches ≡ next
-cut_target n marks branches answer next e f = ap (λ (m : List ℕ). target m branches) (sym (cut n marks)) ∙ sym e ∙ f
 
 module _ (s : CheckedScript) (line : ℕ) (rows : List Row) (a : Arrived s line rows) (next : ℕ) where
   pub permute_onward : (images : List ℕ) → permute images next ≡ (script s).action line → Onward (script s).lines line next
@@ -58,21 +50,18 @@ module _ (s : CheckedScript) (line : ℕ) (rows : List Row) (a : Arrived s line 
         entered_put (subst (λ (x : Action). leads x next ≡ true) e (eq-eqb next next refl)) (shuffle_onward draws e)
         (λ m b f k. subst (λ (x : Action). total_of b (rows_view (take m after)) ≤ total x * total_of b rows) e (let t = h m b f k in omega arith))
 
-  pub branch_reached : (places : List ℕ) (branches : List Branch) (marks : List ℕ) → turn places branches ≡ (script s).action line → target marks branches ≡ Some next → Reached s next places rows
+  pub branch_reached : (places : List ℕ) (branches : List Branch) (marks : List ℕ) → turn places branches ≡ (script s).action line → target marks branches ≡ Some next → Reached s next rows
   branch_reached places branches marks e f =
       let o = turn_onward places branches marks e f in
-      let t = turn_facts s line rows a places branches e in
       record {
         standing = record { lawful = a.standing.lawful; from_two = (let k = a.standing.from_two in let g = o.later in omega arith); there = o.there };
-        few = t.few;
-        inside = t.inside;
         arrives = λ some h. arrived_next s line rows a next (subst (λ (x : Action). leads x next ≡ true) e (target_leads marks branches next f)) o some
             (λ b k. subst (λ (x : Action). total_of b some ≤ total x * total_of b rows) e (let t = h b in omega arith));
       }
 
-pub entered_child : (s : CheckedScript) (line : ℕ) (places : List ℕ) (rows : List Row) → Reached s line places rows → (answer : Option ℕ) (state : List Row) (before after : List code.Row) → Put answer state before after → length after ≡ length before
+pub entered_child : (s : CheckedScript) (line : ℕ) (rows : List Row) → Reached s line rows → (answer : Option ℕ) (state : List Row) (before after : List code.Row) → Put answer state before after → length after ≡ length before
     → ((m b : ℕ) → answer ≡ Some m → total_of b (rows_view (take m after)) ≤ total_of b rows) → Entered s line answer after
-entered_child s line places rows r answer state before after put long h =
+entered_child s line rows r answer state before after put long h =
     record {
       standing = r.standing;
       fits = put_fits answer state before after put long;
@@ -93,10 +82,3 @@ module _ {V : Type 0} (visits : Protocol → Node → V → V → Type 0) (p : P
       let state : List Row = mixed p.script.cards m rows in
       let k : Put answer state room after = subst (λ (n : ℕ). Put answer (mixed n m rows) room after) c put in
       below_mixed visits p line rows (length room) marks count before a m last made e l h (made_put m.next state k enter)
-
--- the same room and the same marks
-pub made_same : {V : Type 0} (visits : Protocol → Node → V → V → Type 0) (p : Protocol) (line : ℕ) (state : List Row) (room other : ℕ) (marks others more : List ℕ) (count : ℕ) (before after : V) (answer : Result ℕ TreeFault)
-    → room ≡ other → marks ≡ others → Made visits p line state room (marks ++ more) count before after answer → Made visits p line state other (others ++ more) count before after answer
-made_same visits p line state room other marks others more count before after answer e f m =
-    subst (λ (r : ℕ). Made visits p line state r (others ++ more) count before after answer) e
-    (subst (λ (xs : List ℕ). Made visits p line state room (xs ++ more) count before after answer) f m)

@@ -1,11 +1,14 @@
 -- What a walk comes to at a node, from what it comes to below it.
-use Rattle.std.proofs.Common.{◌≡◌, ℕ, zero, suc, ◌+◌, ◌<◌, ◌≤◌, List, [], ◌∷◌, ◌++◌, length, Some, Ok, Err, Option, Result, sym, ap, ◌∙◌, subst, add-one, arith}
+use Rattle.std.proofs.Common.{◌≡◌, ℕ, zero, suc, ◌+◌, ◌<◌, ◌≤◌, ◌⊎◌, inl, inr, List, [], ◌∷◌, ◌++◌, length, Some, Ok, Err, Option, Result, sym, ap, ◌∙◌, subst, add-one, arith}
 use Rattle.std.proofs.lemmas.List.{flat_map_more}
 use Rattle.script.specs.Model.{Action, Branch}
 use Rattle.protocol.specs.Machine.{Protocol, Mixing, Trace, action_at, target}
 use Rattle.protocol.specs.States.{Row, Child, mixed}
 use Rattle.protocol.specs.Table.{bytes_of}
 use Rattle.protocol.specs.Tree.{Node, Event, mixed_node, child_events, events_below, subtree, bench_rows}
+use Rattle.sheet.specs.declared.action.Action as code
+use Rattle.sheet.specs.declared.action.Action.TheVariants.{Committed, Open, Nothing}
+use Rattle.sheet.specs.Actions.{shows}
 use Rattle.tree.specs.declared.fault.TreeFault.{TreeFault}
 use Rattle.tree.specs.declared.fault.TreeFault.TheVariants.{Bench, Nodes}
 use Rattle.tree.specs.Walks.{node_at, Walked, over, faulted, Grown, Made, Below}
@@ -40,11 +43,16 @@ module _ {V : Type 0} (visits : Protocol → Node → V → V → Type 0) (p : P
       (w bench k (need + length rows) count trace (omega arith) e b (add-one count)))
 
 module _ {V : Type 0} (visits : Protocol → Node → V → V → Type 0) (p : Protocol) (line : ℕ) (rows : List Row) (rest : ℕ) (marks : List ℕ) (count : ℕ) (before : V) where
-  -- nothing is below a result
-  pub below_result : (a : Action) → a ≡ action_at p line → ((grow : Node → List Event) (u : Node) → events_below grow p u a ≡ []) → Below visits p line rows rest marks count before before (Ok count)
-  below_result a e h bench depth need number trace d f b n =
+  -- nothing is below a result, nor below a line that has no action
+  pub below_result : (a : code.Action) → shows a ≡ action_at p line
+      → ((x : ℕ) × (y : ℕ) × (a ≡ Committed x y)) ⊎ (((x : ℕ) × (a ≡ Open x)) ⊎ (a ≡ Nothing)) → Below visits p line rows rest marks count before before (Ok count)
+  below_result a e k bench depth need number trace d f b n =
+      let grow : Node → List Event = subtree depth p in
       let u : Node = node_at number line need rows trace in
-      subst (λ (es : List Event). Walked (visits p) bench es count before before (Ok count)) (sym (h (subtree depth p) u) ∙ ap (events_below (subtree depth p) p u) e) (over count before)
+      let none : events_below grow p u (shows a) ≡ [] =
+      (let along = λ (c : code.Action). λ (h : a ≡ c). ap (λ (x : code.Action). events_below grow p u (shows x)) h in
+      elim k [ inl h ↦ along (Committed h.0 h.1) h.2 | inr h ↦ elim h [ inl o ↦ along (Open o.0) o.1 | inr o ↦ along Nothing o ] ]) in
+      subst (λ (es : List Event). Walked (visits p) bench es count before before (Ok count)) (sym none ∙ ap (events_below grow p u) e) (over count before)
 
   -- a permute or a shuffle has one node below it
   pub below_mixed : (a : Action) (m : Mixing) (after : V) (answer : Result ℕ TreeFault) → a ≡ action_at p line → line < m.next

@@ -4,7 +4,7 @@ mod Scanning
 mod Arriving
 mod Walking
 mod Growing
-mod Trailing
 mod Turning
 mod Entering
 mod Rooting
+mod Going

@@ -1,8 +1,7 @@
 -- What is read at a node, and the certificate that notes it.
-use Rattle.std.proofs.Common.{◌≡◌, ℕ, Bool, true, false, cond, List, is_some, Some, None, Option, sym, refl, ap, ◌∙◌}
+use Rattle.std.proofs.Common.{◌≡◌, ℕ, true, false, List, is_some, Some, None, Option, MatchOption, sym, refl, ap, ◌∙◌}
 use Rattle.script.specs.Model.{Action}
-use Rattle.protocol.specs.Machine.{Protocol, action_at, is_result}
-use Rattle.protocol.specs.States.{Row, first_wrong, wrongness}
+use Rattle.protocol.specs.Machine.{is_result}
 use Rattle.protocol.specs.Tree.{Certificate}
 use Rattle.rows.specs.declared.outcome.Outcome.{Outcome}
 use Rattle.rows.specs.declared.outcome.Outcome.TheVariants.{Committed, Opened}
@@ -13,12 +12,14 @@ pub some_wrong : (o : Option code.Wrong) → is_some o ≡ is_some (wrong_view o
 some_wrong None = refl
 some_wrong (Some w) = refl
 
-pub no_result : (p : Protocol) (l : ℕ) (rows : List Row) → is_result (action_at p l) ≡ false → false ≡ is_some (wrongness p l rows)
-no_result p l rows e = sym (ap (λ (t : Bool). is_some (cond t (first_wrong p (action_at p l) rows) None)) e)
-
-pub result_of : (o : Outcome) (a : Action) → action_of o ≡ a → is_result a ≡ true
+result_of : (o : Outcome) (a : Action) → action_of o ≡ a → is_result a ≡ true
 result_of (Committed left right) a e = sym (ap is_result e)
 result_of (Opened value) a e = sym (ap is_result e)
+
+-- a line gives a result exactly where there is one
+pub is_outcome : (o : Option Outcome) (a : Action) → MatchOption o (is_result a ≡ false) (λ x. action_of x ≡ a) → is_some o ≡ is_result a
+is_outcome None a h = sym h
+is_outcome (Some x) a h = sym (result_of x a h)
 
 pub same_certificate : (a b : Certificate) → a.count ≡ b.count → a.wrong ≡ b.wrong → a.leaking ≡ b.leaking → a.classes ≡ b.classes → a ≡ b
 same_certificate a b c w l k =

@@ -1,35 +1,45 @@
 -- The root of the tree: its rows, and the walk from there on.
 use Rattle.std.proofs.Common.{◌≡◌, ℕ, zero, suc, ◌^◌, ◌<◌, ◌≤◌, Bool, true, false, cond, ltb, List, [], length, take, replicate, Some, None, Option, Result, sym, refl, ap, ◌∙◌, subst, zero-add, arith}
-use Rattle.script.specs.Model.{LawfulScript}
+use Rattle.cards.specs.Decks.{DeckMeaning}
+use Rattle.cards.specs.Shuffles.{ShuffleMeaning}
+use Rattle.heads.specs.declared.head.Head.{Head}
 use Rattle.protocol.specs.Machine.{Protocol, inputs}
 use Rattle.protocol.specs.States.{Row, total_of, start_state}
 use Rattle.protocol.specs.Tree.{Node, events, subtree, bench_rows, scan, certify}
 use Rattle.rows.specs.declared.row.Row as code
-use Rattle.rows.specs.Views.{rows_view, Put}
+use Rattle.rows.specs.Views.{rows_view, Put, Lays}
 use Rattle.sheet.specs.declared.states.CheckedScript.{CheckedScript}
 use Rattle.sheet.specs.Laws.{SmallProducts}
 use Rattle.sheet.specs.Products as products
+use Rattle.sheet.specs.Scripts.{head}
 use Rattle.sheet.specs.Sheets.{script, script_bytes}
-use Rattle.sheet.specs.Lawful.{lawful_script}
 use Rattle.sheet.specs.Passed.{not_some}
+use Rattle.line_parts.proofs.Acting.{lawful}
 use Rattle.sheet.proofs.Paths.{small_products}
 use Rattle.tree.specs.declared.certificate.Certificate.{Certificate}
 use Rattle.tree.specs.declared.fault.TreeFault.{TreeFault}
 use Rattle.tree.specs.Certificates.{view, blank}
-use Rattle.tree.specs.Walks.{node_at, Standing, Entered, notes, Walked, faulted, Made}
+use Rattle.tree.specs.Walks.{playing, node_at, Standing, Entered, notes, Walked, faulted, Made}
 use Rattle.tree.proofs.Arriving.{put_fits}
 use Rattle.tree.proofs.Scanning.{left_by, walked_scan}
-
-pub lawful_of : (s : CheckedScript) → LawfulScript (script s)
-lawful_of s = lawful_script (script_bytes s) (not_some _ s.passes)
 
 small_of : (s : CheckedScript) → SmallProducts (script s)
 small_of s = small_products (script_bytes s) (not_some _ s.passes)
 
 root_standing : (s : CheckedScript) → Standing s 2
 root_standing s =
-    let l = lawful_of s in
+    let l = lawful s in
     record { lawful = l; from_two = omega arith; there = (let k = l.some_line in omega arith) }
+
+-- how the rows of the root are laid
+pub laid : (s : CheckedScript) (deck : DeckMeaning) (bank : ℕ → ShuffleMeaning) (h : Head) (codes : List ℕ) → h ≡ head (script_bytes s) → codes ≡ (script s).codes → Lays (playing s deck bank) h.players codes deck
+laid s deck bank h codes e f =
+    record {
+      cards_are = sym (lawful s).laid ∙ ap length (sym f);
+      players_are = ap (λ (x : Head). x.players) (sym e);
+      codes_are = sym f;
+      deck_is = refl;
+    }
 
 one_at_most : (t : Bool) → cond t 1 0 ≤ 1
 one_at_most true = omega arith
@@ -59,12 +69,12 @@ blank_classes (suc (suc (suc zero))) h = refl
 blank_classes (suc (suc (suc (suc k)))) h = absurd (omega arith)
 
 -- the walk over all events, and the certificate that it leaves
-pub root_walked : {V : Type 0} (visits : Protocol → Node → V → V → Type 0) (p : Protocol) (bench room : ℕ) (before after : V) (answer : Result ℕ TreeFault) → room ≡ bench_rows bench
-    → Made visits p 2 (start_state p) room [] 0 before after answer → Walked (visits p) bench (events p) 0 before after (faulted answer)
+pub root_walked : {V : Type 0} (visits : Protocol → Node → V → V → Type 0) (p : Protocol) (bench room : ℕ) (marks : List ℕ) (before after : V) (answer : Result ℕ TreeFault) → room ≡ bench_rows bench → marks ≡ []
+    → Made visits p 2 (start_state p) room marks 0 before after answer → Walked (visits p) bench (events p) 0 before after (faulted answer)
 unfolding events
-root_walked visits p bench room before after answer r made =
+root_walked visits p bench room marks before after answer r e made =
     subst (λ (n : ℕ). Walked (visits p) bench (subtree p.script.lines p (node_at 0 2 n (start_state p) [])) 0 before after (faulted answer)) (zero-add (length (start_state p)))
-    (made bench p.script.lines 0 [] (omega arith) (zero-add room ∙ r) refl)
+    (made bench p.script.lines 0 [] (omega arith) (zero-add room ∙ r) (sym e))
 
 pub certified : (p : Protocol) (bench : ℕ) (before after : Certificate) (answer : Result ℕ TreeFault) → p.script.players ≤ 3 → before ≡ blank
     → Walked (notes p) bench (events p) 0 before after (faulted answer) → left_by (faulted answer) (view (inputs p) after) ≡ certify p bench

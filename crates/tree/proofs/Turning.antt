@@ -17,7 +17,8 @@ use Rattle.tree.specs.declared.fault.TreeFault.{TreeFault}
 use Rattle.tree.specs.declared.fault.TreeFault.TheVariants.{NoBranch}
 use Rattle.tree.specs.Faults.{shown}
 use Rattle.tree.specs.Walks.{node_at, Arrived, Entered, Held, Walked, faulted, Grown, Made, Below}
-use Rattle.tree.proofs.Arriving.{acts, few_places}
+use Rattle.line_parts.proofs.Acting.{few_places}
+use Rattle.tree.proofs.Arriving.{acts}
 use Rattle.tree.proofs.Growing.{made_grown, child_made}
 use Rattle.tree.proofs.Walking.{turn_on, turn_refused, turn_over, no_branch}
 
@@ -33,7 +34,7 @@ turn_facts s line rows a places branches e =
     let h = subst (LawfulAction (script s).cards (script s).lines line) (sym e) (acts s line rows a) in
     record {
       few_cards = a.standing.lawful.few_cards;
-      few = few_places s line a.standing places branches (sym e);
+      few = few_places s line places branches (sym e);
       inside = h.1.0;
       onward = h.1.1;
     }

@@ -1,6 +1,5 @@
 -- The walk over the nodes of a checked script's tree, with a deck and a bank of shuffles.
 use Rattle.std.specs.Prelude.{◌≡◌, ℕ, suc, ◌+◌, ◌<◌, ◌≤◌, Bool, cond, ◌&&◌, List, [], ◌∷◌, length, take, Some, None, Ok, Err, Option, Result, MatchOption, ◌==◌, slice_index}
-use Rattle.std.specs.List.{AllByRecursion}
 use Rattle.cards.specs.Decks.{DeckMeaning}
 use Rattle.cards.specs.Shuffles.{ShuffleMeaning}
 use Rattle.script.specs.Model.{LawfulScript}
@@ -19,6 +18,7 @@ use Rattle.sheet.specs.Sheets.{script}
 use Rattle.tree.specs.declared.certificate.Certificate.{Certificate}
 use Rattle.tree.specs.declared.certificate.Classes.{Classes}
 use Rattle.tree.specs.declared.fault.TreeFault.{TreeFault}
+use Rattle.tree.specs.declared.walk.Walk.{Walk}
 use Rattle.tree.specs.Certificates.{class_list, view}
 use Rattle.tree.specs.Faults.{shown}
 
@@ -86,12 +86,18 @@ pub record Arrived (s : CheckedScript) (line : ℕ) (rows : List Row) : Type 0 w
   pub path : Path (script s).action line product
   pub bounded : (b : ℕ) → b < 8 → total_of b rows ≤ product
 
--- A node's child with some of its rows may stand at this line, to which the turn of these places has a branch.
-pub record Reached (s : CheckedScript) (line : ℕ) (places : List ℕ) (rows : List Row) : Type 0 where
+-- A node's child with some of its rows may stand at this line, to which the node's turn has a branch.
+pub record Reached (s : CheckedScript) (line : ℕ) (rows : List Row) : Type 0 where
   pub standing : Standing s line
-  pub few : length places ≤ 12
-  pub inside : AllByRecursion (λ p. (1 ≤ p) × (p ≤ (script s).cards)) places
   pub arrives : (some : List Row) → ((b : ℕ) → total_of b some ≤ total_of b rows) → Arrived s line some
+
+-- What a part of a walk keeps: the script with its deck and its bank, the visitor's place, and the marks shown so far.
+pub record Kept {V D B : Type 0} (before after : Walk V D B) : Type 0 where
+  pub script : after.script.now ≡ before.script.now
+  pub deck : after.deck.now ≡ before.deck.now
+  pub bank : after.bank.now ≡ before.bank.now
+  pub visitor : after.visitor.ghost_name ≡ before.visitor.ghost_name
+  pub trace : after.trace.items ≡ before.trace.items
 
 -- A state for this line stands in the first rows of the room, as many as are answered; none where it has no room.
 pub record Entered (s : CheckedScript) (line : ℕ) (answer : Option ℕ) (room : List code.Row) : Type 0 where
@@ -107,6 +113,11 @@ Held answer rows room =
 abbrev pub faulted : {A : Type 0} → Result A TreeFault → Result A Fault
 faulted (Ok x) = Ok x
 faulted (Err f) = Err (shown f)
+
+-- the answer of a walk that only refuses, with the count of nodes that it has left
+abbrev pub counted : ℕ → Result Unit TreeFault → Result ℕ TreeFault
+counted nodes (Ok x) = Ok nodes
+counted nodes (Err f) = Err f
 
 abbrev pub answer_view : ℕ → Result Certificate TreeFault → Result tree.Certificate Fault
 answer_view inputs (Ok c) = Ok (view inputs c)

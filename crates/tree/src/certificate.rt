@@ -3,7 +3,8 @@ ghost use Rattle.std.specs.Prelude.{◌≡◌, not, ◌&&◌, is_some, slice_ind
 ghost use Rattle.tree.specs.Certificates.{class_list, blank};
 
 // The class of each of the eight inputs; those past the script's inputs mean nothing.
-#[derive(Clone, Copy, PartialEq, Eq, Debug)]
+// Kept as eight fields: by a rule of the project the classes of a certificate are no array.
+#[derive(Clone, Copy, PartialEq, Eq, Debug, Default)]
 pub struct Classes {
     pub input0: u8,
     pub input1: u8,
@@ -16,7 +17,7 @@ pub struct Classes {
 }
 
 // How many nodes, the first wrong one, the first that leaks, and the class of each input.
-#[derive(Clone, Copy, PartialEq, Eq, Debug)]
+#[derive(Clone, Copy, PartialEq, Eq, Debug, Default)]
 pub struct Certificate {
     pub nodes: u16,
     pub wrong: Option<u16>,
@@ -48,27 +49,13 @@ impl Certificate {
     pub fn blank() -> Certificate
         ensures { result ≡ blank }
     {
-        Certificate {
-            nodes: 0,
-            wrong: None,
-            leaking: None,
-            classes: Classes {
-                input0: 0,
-                input1: 0,
-                input2: 0,
-                input3: 0,
-                input4: 0,
-                input5: 0,
-                input6: 0,
-                input7: 0,
-            },
-        }
+        Certificate::default()
     }
 
     // Whether no node is wrong and none leaks.
     pub fn is_faultless(&self) -> bool
         ensures { result ≡ (not (is_some self.now.wrong) && not (is_some self.now.leaking)) }
     {
-        !self.wrong.is_some() && !self.leaking.is_some()
+        self.wrong.is_none() && self.leaking.is_none()
     }
 }

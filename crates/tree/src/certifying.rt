@@ -13,7 +13,8 @@ use rows::row::Row;
 use sheet::states::CheckedScript;
 use shuffles::bank::Bank;
 
-// The certificate, or why the tree is not built. Every row of the bench is zero then.
+// The certificate, or why the tree is not built. Every row of the bench is zero then. The call that users make, with the
+// theorems on its contract, is that of the crate above.
 pub fn certify_rows<D: Deck, B: Bank>(
     script: &CheckedScript,
     deck: &D,

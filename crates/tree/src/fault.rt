@@ -1,23 +1,22 @@
 // Why a tree is not built.
-ghost use Rattle.std.specs.Prelude.{◌≡◌};
 ghost use Rattle.tree.specs.Faults.{shown};
 
-use script::fault::Layer;
+use script::fault::{Layer, Refusal};
 
 #[derive(Clone, Copy, PartialEq, Eq, Debug)]
 pub enum TreeFault {
-    // A row of the turn's node shows marks for which there is no branch.
+    // 20: a row of the turn's node shows marks for which there is no branch.
     NoBranch { line: u8, node: u16 },
-    // The path need of the new node is above the bench.
+    // 21: the path need of the new node is above the bench.
     Bench { line: u8, node: u16 },
-    // A node number 512 would be made.
+    // 22: a node number 512 would be made.
     Nodes { line: u8 },
 }
 
-impl TreeFault {
-    pub fn number(&self) -> u8
-        ensures { result ≡ (shown self.now).number }
-    {
+impl Refusal for TreeFault {
+    ghost names = { shown };
+
+    fn number(&self) -> u8 {
         match self {
             TreeFault::NoBranch { .. } => 20,
             TreeFault::Bench { .. } => 21,
@@ -25,28 +24,21 @@ impl TreeFault {
         }
     }
 
-    pub fn layer(&self) -> Layer
-        ensures { result ≡ (shown self.now).layer }
-    {
+    fn layer(&self) -> Layer {
         Layer::Tree
     }
 
-    pub fn line(&self) -> u8
-        ensures { result ≡ (shown self.now).line }
-    {
+    fn line(&self) -> u8 {
         match self {
-            TreeFault::NoBranch { line, .. } => *line,
-            TreeFault::Bench { line, .. } => *line,
-            TreeFault::Nodes { line } => *line,
+            TreeFault::NoBranch { line, .. }
+            | TreeFault::Bench { line, .. }
+            | TreeFault::Nodes { line } => *line,
         }
     }
 
-    pub fn place(&self) -> u16
-        ensures { result ≡ (shown self.now).place }
-    {
+    fn place(&self) -> u16 {
         match self {
-            TreeFault::NoBranch { node, .. } => *node,
-            TreeFault::Bench { node, .. } => *node,
+            TreeFault::NoBranch { node, .. } | TreeFault::Bench { node, .. } => *node,
             TreeFault::Nodes { .. } => 512,
         }
     }

@@ -5,5 +5,6 @@ pub mod certificate;
 pub mod certifying;
 pub mod fault;
 pub mod note;
+mod said;
 pub mod visitor;
 pub mod walk;

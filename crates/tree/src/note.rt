@@ -1,14 +1,12 @@
 // The certificate as a visitor: it notes each node.
 ghost use Rattle.std.specs.Prelude.{◌≡◌, ℕ, ◌<◌, false, is_some, MatchOption};
-ghost use Rattle.std.specs.Option.{option_or};
 ghost use Rattle.cards.specs.Lists.{table};
 ghost use Rattle.cards.specs.Shuffles.{ShuffleMeaning};
 ghost use Rattle.protocol.specs.Machine.{is_result};
 ghost use Rattle.protocol.specs.States.{wrongness};
-ghost use Rattle.protocol.specs.Tree.{first_from, noted_number};
-ghost use Rattle.rows.specs.Nodes.{action_of, output_of as output_if};
+ghost use Rattle.protocol.specs.Tree.{first_from};
+ghost use Rattle.rows.specs.Nodes.{action_of};
 ghost use Rattle.rows.specs.Views.{rows_view};
-ghost use Rattle.sheet.specs.Scripts.{output_of};
 ghost use Rattle.sheet.specs.Sheets.{script as script_in};
 ghost use Rattle.tree.specs.Certificates.{class_list};
 ghost use Rattle.tree.specs.Walks.{playing, together, Standing, Divided, notes};
@@ -17,31 +15,11 @@ use crate::certificate::{Certificate, Classes};
 use crate::visitor::{Visit, Visitor};
 use cards::deck::Deck;
 use cards::place::Place;
-use heads::head::Output;
 use rows::node::{first_wrong, leaks};
 use rows::outcome::Outcome;
 use rows::row::Row;
 use sheet::action::Action;
 use sheet::states::CheckedScript;
-
-fn is_open(output: Output) -> bool
-    ensures { output_if result ≡ output_of output }
-{
-    match output {
-        Output::Committed => false,
-        Output::Open => true,
-    }
-}
-
-// The number already known, or else that of the node where it was found.
-fn first_noted(known: Option<u16>, found: bool, node: u16) -> Option<u16>
-    ensures { result ≡ option_or known (noted_number found node) }
-{
-    match known {
-        Some(number) => Some(number),
-        None => { if found { Some(node) } else { None } }
-    }
-}
 
 // Whether input c has the class and the total of input b.
 fn are_together(classes: &Classes, sums: &[u64; 8], b: u8, c: u8) -> bool
@@ -56,18 +34,16 @@ fn class_of(classes: &Classes, sums: &[u64; 8], b: u8) -> u8
     requires { b < 8 }
     ensures { result ≡ first_from b 0 (together (class_list classes.now) sums.now b) }
 {
-    for c in 0..b {
-        if are_together(classes, sums, b, c) {
-            return c;
-        }
-    }
-    b
+    (0..b)
+        .find(|c| are_together(classes, sums, b, *c))
+        .unwrap_or(b)
 }
 
 // The classes divided by the totals.
 fn divide(classes: &Classes, sums: &[u64; 8]) -> Classes
     ensures { class_list result ≡ table 8 (λ b. first_from b 0 (together (class_list classes.now) sums.now b)) }
 {
+    // Kept as eight calls: a chain would make an array, only to take it apart into the eight fields.
     Classes {
         input0: class_of(classes, sums, 0),
         input1: class_of(classes, sums, 1),
@@ -100,9 +76,10 @@ fn classes_at(script: &CheckedScript, line: u8, classes: Classes, sums: &[u64; 8
     requires { Standing script.now line }
     ensures { Divided script.now line sums.now classes result }
 {
-    match outcome_at(script, line) {
-        Some(_) => divide(&classes, sums),
-        None => classes,
+    if outcome_at(script, line).is_some() {
+        divide(&classes, sums)
+    } else {
+        classes
     }
 }
 
@@ -112,15 +89,9 @@ fn wrong_at<D: Deck>(script: &CheckedScript, deck: &D, line: u8, rows: &[Row]) -
     ensures { (bank : ℕ → ShuffleMeaning) → result ≡ is_some (wrongness (playing script.now (D.Deck.means deck.now) bank) line (rows_view rows.now)) }
 {
     let head = script.head();
+    // Kept as a match: after `is_some_and` the proof does not know what the closure's call ensured.
     match outcome_at(script, line) {
-        Some(outcome) => first_wrong(
-            deck,
-            head.cards,
-            head.players,
-            head.function,
-            outcome,
-            rows,
-        ).is_some(),
+        Some(outcome) => first_wrong(deck, &head, outcome, rows).is_some(),
         None => false,
     }
 }
@@ -130,11 +101,11 @@ impl Visitor for Certificate {
 
     fn visit<D: Deck>(&mut self, script: &CheckedScript, deck: &D, node: Visit<'_>) {
         let head = script.head();
-        let leaking = leaks(head.players, head.function, is_open(head.output), node.sums);
+        let leaking = leaks(&head, node.sums);
         let wrong = wrong_at(script, deck, node.line, node.rows);
         self.nodes = node.number + 1;
-        self.wrong = first_noted(self.wrong, wrong, node.number);
-        self.leaking = first_noted(self.leaking, leaking, node.number);
+        self.wrong = self.wrong.or(wrong.then_some(node.number));
+        self.leaking = self.leaking.or(leaking.then_some(node.number));
         self.classes = classes_at(script, node.line, self.classes, node.sums);
     }
 }

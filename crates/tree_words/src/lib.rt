@@ -1,87 +1,59 @@
 // A certificate and the refusals of certify, in plain words.
 #![tactic(auto)]
 
-ghost use Rattle.std.specs.Prelude.{◌≡◌, ◌^◌, min};
-
-use std::alloc::{AllocError, Global};
-use std::io;
+use script::fault::Refused;
+use script::inputs::count_inputs;
+use std::{fmt, io};
 use tree::certificate::Certificate;
 use tree::fault::TreeFault;
 
-// How many inputs so many players have, of whom there are at most three.
-pub fn count_inputs(players: u8) -> u8
-    ensures { result ≡ 2 ^ min players 3 }
-{
-    match players {
-        0 => 1,
-        1 => 2,
-        2 => 4,
-        _ => 8,
-    }
-}
-
 // The first node of a kind, where there is one.
-fn node_words(heap: Global, node: Option<u16>, kind: &str) -> Result<String, AllocError> {
-    match node {
-        Some(node) => format!(in heap; "node {node} {kind}"),
-        None => format!(in heap; "none {kind}"),
+#[derive(Clone, Copy)]
+struct First(Option<u16>);
+
+impl fmt::Display for First {
+    fn fmt<W: fmt::Write>(&self, f: &mut fmt::Formatter<W>) -> fmt::Result {
+        match self.0 {
+            Some(node) => write!(f, "node {node}"),
+            None => write!(f, "none"),
+        }
     }
 }
 
-fn class_words(heap: Global, players: u8, certificate: &Certificate) -> Result<String, AllocError> {
-    let mut text = String::new(heap);
-    for input in 0..count_inputs(players) {
-        let class = certificate.classes.of(input);
-        let word = format!(in heap; " {class}")?;
-        text.push_str(word.as_str())?;
-    }
-    Ok(text)
+// A certificate for so many players: the number of nodes, the first wrong and the first leaking node, the class of each
+// input, and whether the script is certified.
+#[derive(Clone, Copy)]
+pub struct CertificateWords<'a> {
+    pub players: u8,
+    pub certificate: &'a Certificate,
 }
 
-// The number of nodes, the first wrong and the first leaking node, the class of each input, and whether the script is
-// certified.
-pub fn certificate_words(
-    heap: Global,
-    players: u8,
-    certificate: &Certificate,
-) -> Result<String, AllocError> {
-    let nodes = certificate.nodes;
-    let wrong = node_words(heap, certificate.wrong, "wrong")?;
-    let leaking = node_words(heap, certificate.leaking, "leaking")?;
-    let classes = class_words(heap, players, certificate)?;
-    let verdict = if certificate.is_faultless() {
-        "certified"
-    } else {
-        "not certified"
-    };
-    format!(in heap; "{nodes} nodes, {wrong}, {leaking}, classes{classes}: {verdict}")
-}
-
-// Number, layer, line and place of a refusal.
-pub fn refusal_words(heap: Global, fault: &TreeFault) -> Result<String, AllocError> {
-    let number = fault.number();
-    let line = fault.line();
-    let place = fault.place();
-    format!(in heap; "refused {number}, layer tree, line {line}, place {place}")
-}
-
-// What a refusal means, and what to do next.
-fn meaning(fault: &TreeFault) -> &'static str {
-    match fault {
-        TreeFault::NoBranch { .. } =>
-            "at this turn, in the node with this number, the cards can show marks for which there is no branch. Next: add the branch",
-        TreeFault::Bench { .. } =>
-            "the rows of all states from the root to the node with this number do not fit on the bench. Next: give a longer bench, as by the line 'bench 4096'",
-        TreeFault::Nodes { .. } =>
-            "the tree would have more than 512 nodes. Next: write a sheet with fewer turns, or turns of fewer cards",
+impl fmt::Display for CertificateWords<'_> {
+    fn fmt<W: fmt::Write>(&self, f: &mut fmt::Formatter<W>) -> fmt::Result {
+        let nodes = self.certificate.nodes;
+        let wrong = First(self.certificate.wrong);
+        let leaking = First(self.certificate.leaking);
+        write!(
+            f,
+            "{nodes} nodes, {wrong} wrong, {leaking} leaking, classes"
+        )?;
+        for input in 0..count_inputs(self.players) {
+            let class = self.certificate.classes.of(input);
+            write!(f, " {class}")?;
+        }
+        let verdict = if self.certificate.is_faultless() {
+            "certified"
+        } else {
+            "not certified"
+        };
+        write!(f, ": {verdict}")
     }
 }
 
 // Prints why the tree is not built.
 pub fn print_refusal(rt: &HostRuntime, fault: &TreeFault) -> io::Result<()> {
-    let refusal = refusal_words(rt.alloc(), fault)?;
-    let meaning = meaning(fault);
-    println!(rt; "{refusal}: {meaning}")
+    let refused = Refused { fault };
+    println!(rt; "{refused}: {fault}")
 }
 
 // Prints why a script whose tree is built is not certified.

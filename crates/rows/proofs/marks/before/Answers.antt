@@ -1,22 +1,12 @@
-use Rattle.std.proofs.Common.{◌≤◌, ◌⊎◌, length, ◌∙◌, inl, inr, arith}
-use Rattle.std.proofs.lemmas.Bool.{cases_lt}
-use Rattle.rows.proofs.Dictionary.{before_yes, before_no, before_on, before_end}
+use Rattle.std.proofs.Common.{◌⊎◌, length, ◌≡◌, ◌∙◌, inl, inr}
+use Rattle.std.specs.Iterator.Adapters.{zip_first, zip_second}
+use Rattle.std.specs.Slice.Iter.{iter_rest}
+use Rattle.rows.proofs.Dictionary.{before_done}
 use Rattle.rows.proofs.marks.before.Goals as goal
-
-pub returns-then-a-i : goal.returns-then-a-i
-returns-then-a-i c =
-    before_yes c.args.a.now c.args.b.now c.loop-i.i (omega arith) (omega arith) c.if-a-i.true ∙ c.loop-i.invariant
-
-pub returns-then-b-i : goal.returns-then-b-i
-returns-then-b-i c =
-    before_no c.args.a.now c.args.b.now c.loop-i.i (omega arith) (omega arith) c.if-b-i.true ∙ c.loop-i.invariant
-
-pub loop-i-preserved : goal.loop-i-preserved
-loop-i-preserved c =
-    before_on c.args.a.now c.args.b.now c.loop-i.i (omega arith) (omega arith) (omega arith) ∙ c.loop-i.invariant
 
 pub returns : goal.returns
 returns c =
-    let past : (length c.args.a.now ≤ c.loop-i.i) ⊎ (length c.args.b.now ≤ c.loop-i.i) =
-    elim (cases_lt c.loop-i.i (length c.args.a.now)) [ inl l ↦ inr (omega arith) | inr l ↦ inl l ] in
-    before_end c.args.a.now c.args.b.now c.loop-i.i (omega arith) (omega arith) past ∙ c.loop-i.invariant
+    let ended : (length (iter_rest (zip_first c.loop-x.x-iterator)) ≡ 0) ⊎ (length (iter_rest (zip_second c.loop-x.x-iterator)) ≡ 0) =
+    elim c.in-None.ensures.steps [ inl u ↦ inl u.1.0 | inr u ↦ inr u.1.0 ] in
+    before_done (iter_rest (zip_first c.loop-x.x-iterator)) (iter_rest (zip_second c.loop-x.x-iterator)) (length c.args.a.now) (length c.args.b.now) ended c.loop-x.invariant.3
+    ∙ c.loop-x.invariant.2

@@ -1,6 +1,11 @@
-use Rattle.std.proofs.Common.{◌≡◌, drop}
+use Rattle.std.proofs.Common.{◌≡◌, ◌+◌, length}
+use Rattle.std.specs.Iterator.Adapters.{zip_first, zip_second}
+use Rattle.std.specs.Slice.Iter.{iter_rest}
 use Rattle.protocol.specs.States.{before}
 use Rattle.rows.proofs.marks.before.Given as goal
 
-abbrev pub invariant-loop-i : goal.invariant-loop-i
-invariant-loop-i l = before (drop l.i l.a) (drop l.i l.b) ≡ before l.a l.b
+abbrev pub invariant-loop-x : goal.invariant-loop-x
+invariant-loop-x l =
+    (goal.iterator-loop-x).can_next l.x-iterator × (goal.iterator-loop-x).is_finite l.x-iterator
+    × (before (iter_rest (zip_first l.x-iterator)) (iter_rest (zip_second l.x-iterator)) ≡ before l.a l.b)
+    × (length (iter_rest (zip_first l.x-iterator)) + length l.b ≡ length (iter_rest (zip_second l.x-iterator)) + length l.a)

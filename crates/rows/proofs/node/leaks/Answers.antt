@@ -1,28 +1,23 @@
-use Rattle.std.proofs.Common.{◌*◌, ◌%◌, ◌^◌, sym, ◌∙◌, arith}
+use Rattle.std.proofs.Common.{ℕ, ◌^◌, ◌<◌, rules, ap, ◌∙◌, arith}
+use borrow.Author.Tests.{tests}
+use Rattle.std.proofs.lemmas.Iterator.{serves_from_Range, YieldsList-from_range}
+use Rattle.std.proofs.lemmas.Iterator.Search.{any_from_yields_List}
+use Rattle.rows.proofs.Alike.{parts, leaks_are}
 use Rattle.protocol.specs.States.{any_below}
-use Rattle.rows.proofs.Below.{any_more}
-use Rattle.rows.proofs.Starts.{inputs_are, few_inputs}
-use Rattle.rows.proofs.Alike.{parted, leaks_some, leaks_none}
+use Rattle.rows.proofs.Below.{any_range}
+use Rattle.rows.proofs.Starts.{counted}
 use Rattle.rows.proofs.node.leaks.Goals as goal
 
-pub differs-requires : goal.differs-requires
-differs-requires c =
-    let e = inputs_are c.args.players c.requires in
-    let f = few_inputs c.args.players c.requires in
-    (omega (arith, c.loop-b-test.true), omega arith)
-
-pub returns-then-differs : goal.returns-then-differs
-returns-then-differs c =
-    λ p rows h o t.
-    leaks_some p rows c.args.players c.args.function c.args.openly c.args.sums.now c.requires h o t ((1 * 2 ^ c.args.players) % 256) c.loop-b.b
-    (inputs_are c.args.players c.requires) c.loop-b-test.true (sym c.differs.ensures ∙ c.if-differs.true)
-
-pub loop-b-preserved : goal.loop-b-preserved
-loop-b-preserved c =
-    any_more c.loop-b.b (λ b. any_below ((1 * 2 ^ c.args.players) % 256) (parted c.args.function c.args.openly c.args.sums.now b)) c.loop-b.invariant (sym c.differs.ensures ∙ c.if-differs.false)
+pub any-requires-clause-callable : goal.any-requires-clause-callable
+any-requires-clause-callable c =
+    let k = counted c.args.head.now.players c.count_inputs.result c.requires c.count_inputs.ensures in
+    serves_from_Range (λ x q r. search rules) (λ x l h. let m : x < 8 = omega arith in search rules)
 
 pub returns : goal.returns
 returns c =
-    λ p rows h o t.
-    leaks_none p rows c.args.players c.args.function c.args.openly c.args.sums.now c.requires h o t ((1 * 2 ^ c.args.players) % 256) c.loop-b.b
-    (inputs_are c.args.players c.requires) (let k = c.loop-b.auto.b-end in let l = c.loop-b-test.false in omega arith) c.loop-b.invariant
+    λ p rows h o e.
+    let k = counted c.args.head.now.players c.count_inputs.result c.requires c.count_inputs.ensures in
+    any_from_yields_List (parts c.args.head.now c.args.sums.now (2 ^ c.args.head.now.players)) _ _ c.any.result c.any.ensures.ran (YieldsList-from_range 0 c.count_inputs.result c.count_inputs.result (cc) (omega arith)) (λ x b q k. search (rules, tests))
+    ∙ any_range (parts c.args.head.now c.args.sums.now (2 ^ c.args.head.now.players)) c.count_inputs.result
+    ∙ ap (λ (n : ℕ). any_below n (parts c.args.head.now c.args.sums.now (2 ^ c.args.head.now.players))) k.many
+    ∙ leaks_are p rows c.args.head.now c.args.sums.now c.requires h o e

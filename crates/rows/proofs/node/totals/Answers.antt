@@ -1,11 +1,9 @@
 use Rattle.std.proofs.Common.{◌≡◌, ℕ, ◌+◌, List, get_or, take, ap, ◌∙◌, arith}
-use Rattle.std.proofs.lemmas.List.{take_all}
-use Rattle.cards.specs.Lists.{table}
 use Rattle.protocol.specs.States.{total_of}
 use Rattle.rows.specs.declared.row.Row as code
 use Rattle.rows.specs.Views.{rows_view}
 use Rattle.rows.proofs.Runs.{past}
-use Rattle.rows.proofs.Totals.{total_more, total_take_le, table_at, totals_more}
+use Rattle.rows.proofs.Totals.{total_more, total_take_le, table_at}
 use Rattle.rows.proofs.node.totals.Goals as goal
 
 pub add-requires : goal.add-requires
@@ -18,11 +16,3 @@ add-requires c =
     let t = total_take_le rows (i + 1) b in
     let s = c.requires b h in
     omega arith
-
-pub loop-row-preserved : goal.loop-row-preserved
-loop-row-preserved c =
-    totals_more c.args.rows.now c.loop-row.row-index past c.loop-row.totals c.add.new.sums c.loop-row-test.true c.loop-row.invariant c.add.ensures
-
-pub returns : goal.returns
-returns c =
-    c.loop-row.invariant ∙ ap (λ (xs : List code.Row). table 8 (λ b. total_of b (rows_view xs))) (take_all c.loop-row.row-index c.args.rows.now c.loop-row-test.false)

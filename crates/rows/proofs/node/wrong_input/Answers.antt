@@ -1,55 +1,24 @@
-use Rattle.std.proofs.Common.{◌≡◌, ℕ, ◌^◌, ◌<◌, false, ap, ◌∙◌, arith}
-use Rattle.cards.specs.Decks.{bit_reading}
-use Rattle.protocol.specs.States.{same_reading, errs}
+use Rattle.std.proofs.Common.{ℕ, ◌^◌, ◌<◌, rules, ap, ◌∙◌, arith}
+use borrow.Author.Tests.{tests}
+use Rattle.std.proofs.lemmas.Iterator.{serves_from_Range, YieldsList-from_range}
+use Rattle.std.proofs.lemmas.Iterator.Search.{find_from_yields_List}
+use Rattle.cards.specs.declared.reading.Reading.{Reading}
+use Rattle.rows.specs.Nodes.{strays, first_stray}
 use Rattle.rows.specs.Views.{row_view}
-use Rattle.rows.proofs.Starts.{inputs_are, few_inputs}
-use Rattle.rows.proofs.Wrongs.{errs_yes, errs_agrees, errs_absent, first_yes, first_no, first_none}
+use Rattle.rows.proofs.Starts.{counted}
+use Rattle.rows.proofs.Wrongs.{input_found, map_found}
 use Rattle.rows.proofs.node.wrong_input.Goals as goal
-use Rattle.rows.proofs.node.wrong_input.Goals.{else-row-from-gt0-via-then-row-from-gt0+else-not-agrees, else-row-from-gt0-via-else-row-from-gt0}
 
-pub bounds-row-from : goal.bounds-row-from
-bounds-row-from c =
-    let e = inputs_are c.args.players c.requires in
-    let f = few_inputs c.args.players c.requires in
-    omega (arith, c.loop-input-test.true)
-
-pub value-requires : goal.value-requires
-value-requires c =
-    let e = inputs_are c.args.players c.requires in
-    let f = few_inputs c.args.players c.requires in
-    omega (arith, c.loop-input-test.true)
-
-pub returns-then-not-agrees : goal.returns-then-not-agrees
-returns-then-not-agrees c =
-    λ p h.
-    let e = inputs_are c.args.players c.requires in
-    let b : ℕ = c.loop-input.input in
-    let n : ℕ = 2 ^ c.args.players in
-    let lt : b < n = omega (arith, c.loop-input-test.true) in
-    let is = c.agrees.ensures ∙ ap (λ (v : ℕ). same_reading c.args.reading (bit_reading v)) c.value.ensures in
-    first_yes p c.args.players c.args.function h c.args.reading (row_view c.args.row.now) b n lt
-    (errs_yes p c.args.players c.args.function h c.args.reading (row_view c.args.row.now) b n c.from.result c.agrees.result c.from.ensures is c.if-row-from-gt0.true c.if-not-agrees.true)
-    ∙ c.loop-input.invariant p h
-
-pub loop-input-preserved : goal.loop-input-preserved
-loop-input-preserved c =
-    λ p h.
-    let e = inputs_are c.args.players c.requires in
-    let b : ℕ = c.loop-input.input in
-    let n : ℕ = 2 ^ c.args.players in
-    let lt : b < n = omega (arith, c.loop-input-test.true) in
-    let no : errs p c.args.reading (row_view c.args.row.now) b ≡ false =
-    elim c.else-row-from-gt0.branch [
-      | else-row-from-gt0-via-then-row-from-gt0+else-not-agrees w ↦
-          errs_agrees p c.args.players c.args.function h c.args.reading (row_view c.args.row.now) b n c.from.result w.agrees.result c.from.ensures (w.agrees.ensures ∙ ap (λ (v : ℕ). same_reading c.args.reading (bit_reading v)) w.value.ensures) w.if-not-agrees.false
-      | else-row-from-gt0-via-else-row-from-gt0 w ↦
-          errs_absent p c.args.players c.args.function h c.args.reading (row_view c.args.row.now) b n c.from.result c.from.ensures w.if-row-from-gt0.false
-    ] in
-    first_no p c.args.players c.args.function h c.args.reading (row_view c.args.row.now) b n lt no ∙ c.loop-input.invariant p h
+pub find-requires-clause-callable : goal.find-requires-clause-callable
+find-requires-clause-callable g c =
+    let k = counted c.args.head.now.players c.count_inputs.result c.requires.players c.count_inputs.ensures in
+    serves_from_Range (λ x q r. search rules) (λ x l h. let m : x < 8 = omega arith in search rules)
 
 pub returns : goal.returns
-returns c =
-    λ p h.
-    let e = inputs_are c.args.players c.requires in
-    first_none p c.args.players c.args.function h c.args.reading (row_view c.args.row.now) c.loop-input.input (2 ^ c.args.players) (omega (arith, c.loop-input-test.false))
-    ∙ c.loop-input.invariant p h
+returns g c =
+    let k = counted c.args.head.now.players c.count_inputs.result c.requires.players c.count_inputs.ensures in
+    let f = find_from_yields_List (strays c.args.head.now.function c.reading-reading.result c.args.row.now.weights) _ _ c.find.result c.find.ensures.ran (YieldsList-from_range 0 c.count_inputs.result c.count_inputs.result (cc) (omega arith)) (λ x b q k. search (rules, tests)) in
+    map_found c.args.row.now c.reading-reading.result _ c.find.result c.map.result c.map.ensures.cases (λ x w q. search rules)
+    ∙ input_found c.args.head.now.function c.reading-reading.result (row_view c.args.row.now) c.find.result c.count_inputs.result f
+    ∙ ap (λ (n : ℕ). first_stray c.args.head.now.function n c.reading-reading.result (row_view c.args.row.now)) k.many
+    ∙ ap (λ (x : Reading). first_stray c.args.head.now.function (2 ^ c.args.head.now.players) x (row_view c.args.row.now)) c.reading-reading.ensures

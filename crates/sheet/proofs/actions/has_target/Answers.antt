@@ -1,17 +1,12 @@
-use Rattle.std.proofs.Common.{sym, ◌∙◌, add-one, arith}
-use Rattle.sheet.specs.Chunks.{found, seeks, not_found}
+use Rattle.std.proofs.Common.{◌==◌, rules}
+use Rattle.std.proofs.lemmas.Iterator.Consumers.{YieldsList-from_first}
+use Rattle.std.proofs.lemmas.Iterator.Search.{any_from_yields_List}
+use Rattle.sheet.specs.Branching.{branch_view, branches_left}
+use Rattle.sheet.specs.Scripts.{branches_of}
 use Rattle.sheet.proofs.actions.has_target.Goals as goal
 
-pub returns-then-rest-turned : goal.returns-then-rest-turned
-returns-then-rest-turned c =
-    sym (c.loop-rest.invariant.0 ∙ found c.args.turned c.args.line c.loop-rest.rest.now (omega arith) (omega arith))
-
-pub loop-rest-preserved : goal.loop-rest-preserved
-loop-rest-preserved c = (
-  c.loop-rest.invariant.0
-      ∙ seeks c.args.turned c.args.line c.loop-rest.rest.now _ (omega arith) (rw add-one at c.split_at.ensures.back) (omega arith),
-  omega arith,
-)
-
 pub returns : goal.returns
-returns c = sym (c.loop-rest.invariant.0 ∙ not_found c.args.turned c.args.line c.loop-rest.rest.now (omega arith))
+returns c =
+    any_from_yields_List (λ b. b.target == c.args.line) c.any.new.self _ _ c.any.ensures.ran
+    (YieldsList-from_first branch_view branches_left (branches_of c.args.turned c.args.branches.now) c.new.ensures)
+    (λ x b q k. search rules)

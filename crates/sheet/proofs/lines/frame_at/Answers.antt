@@ -1,10 +1,14 @@
-use Rattle.std.proofs.Common.{sym, ap, ◌∙◌}
-use Rattle.sheet.specs.Lines.{after_first}
-use Rattle.sheet.specs.Splitting.{left_zero, left_more}
+use Rattle.std.proofs.Common.{ap, ◌∙◌}
+use Rattle.sheet.specs.Lines.{frame}
+use Rattle.sheet.proofs.Stepping.{found_frame, no_frame}
 use Rattle.sheet.proofs.lines.frame_at.Goals as goal
 
-pub loop-l-init : goal.loop-l-init
-loop-l-init c = sym (left_zero _)
+pub returns-in-Some : goal.returns-in-Some
+returns-in-Some c =
+    let r = c.in-Some.ensures.ran in
+    found_frame _ _ _ r.0 _ c.args.line r.1.1 r.1.2 (r.2 ∙ c.from.ensures) ∙ ap (λ b. frame b c.args.line) c.new.ensures
 
-pub loop-l-preserved : goal.loop-l-preserved
-loop-l-preserved c = c.after_first-rest.ensures ∙ (ap after_first c.loop-l.invariant ∙ sym (left_more c.args.bytes.now c.loop-l._l))
+pub returns-in-None : goal.returns-in-None
+returns-in-None c =
+    let r = c.in-None.ensures.ran in
+    no_frame _ _ r.0 c.args.line r.1.1 r.1.2.0 (rw c.from.ensures at r.2) ∙ ap (λ b. frame b c.args.line) c.new.ensures

@@ -1,12 +1,10 @@
-use Rattle.std.proofs.Common.{arith}
-use Rattle.shuffles.specs.Positions.{position_here, position_later, position_end}
+use Rattle.std.proofs.Common.{◌==◌, rules}
+use Rattle.std.proofs.lemmas.Iterator.{YieldsList-from_slice}
+use Rattle.std.proofs.lemmas.Iterator.Search.{position_from_yields_List}
+use Rattle.shuffles.specs.Positions.{position_found}
 use Rattle.shuffles.proofs.lists.find.Goals as goal
 
-pub returns-then-x-number : goal.returns-then-x-number
-returns-then-x-number c = let e = position_here c.args.number c.args.list.now c.loop-r.r c.loop-r-test.true c.if-x-number.true in omega (arith, e, c.loop-r.invariant)
-
-pub loop-r-preserved : goal.loop-r-preserved
-loop-r-preserved c = let e = position_later c.args.number c.args.list.now c.loop-r.r c.loop-r-test.true c.if-x-number.false in omega (arith, e, c.loop-r.invariant)
-
 pub returns : goal.returns
-returns c = let e = position_end c.args.number c.args.list.now c.loop-r.r c.loop-r-test.false in omega (arith, e, c.loop-r.invariant)
+returns c =
+    position_found c.args.number c.args.list.now c.position.result
+    (position_from_yields_List (λ x. x == c.args.number) _ _ c.position.result c.position.ensures.ran (YieldsList-from_slice c.args.list.now cc) (λ x b q k. search rules))

@@ -1,7 +1,7 @@
-use Rattle.std.proofs.Common.{◌≡◌, ℕ, ◌+◌, ◌≤◌, true, List, length, sym, ap, ◌∙◌, subst}
+use Rattle.std.proofs.Common.{◌≡◌, ℕ, ◌+◌, true, List, sym, ap, ◌∙◌, subst}
 use Rattle.cards.specs.Lists.{position}
 use Rattle.cards.specs.Shuffles.{image, places, places_fit}
-use Rattle.shuffles.specs.Lawful.{Lands, lands, stays}
+use Rattle.shuffles.specs.Lawful.{Lands, lands}
 use Rattle.shuffles.proofs.places.PlacesShuffle.image.Goals as goal
 use Rattle.shuffles.proofs.places.PlacesShuffle.image.Goals.{After-from}
 use Rattle.shuffles.proofs.places.PlacesShuffle.image.Given as given
@@ -12,21 +12,10 @@ landed g c =
     let n = c.args.self.now.cards in
     let ps = c.bytes-places.result.now in
     let b = g.S.Shuffle.means c.args.self.now.below in
-    let e : c.find-r.result ≡ position (c.args.slot.number + 1) ps = c.find-r.ensures ∙ ap (λ (x : ℕ). position x ps) (c.number.ensures ∙ c.place.ensures) in
-    let t : c.from.result ≡ image b c.args.draw c.find-r.result = c.from.ensures ∙ c.number-to.ensures ∙ c.image.ensures ∙ ap (λ (x : ℕ). image b c.args.draw x) c.at.ensures in
+    let e : c.in-Some.r ≡ position (c.args.slot.number + 1) ps = c.in-Some.ensures.0 ∙ ap (λ (x : ℕ). position x ps) (c.number.ensures ∙ c.place.ensures) in
+    let t : c.from.result ≡ image b c.args.draw c.in-Some.r = c.from.ensures ∙ c.number-to.ensures ∙ c.image.ensures ∙ ap (λ (x : ℕ). image b c.args.draw x) c.at.ensures in
     let fit : places_fit n ps b ≡ true = subst (λ (l : List ℕ). places_fit n l b ≡ true) (sym c.bytes-places.ensures) (sym c.fits.ensures ∙ c.if-not-fits.false) in
-    lands n ps b (g.met.S.Shuffle.lawful c.args.self.now.below) fit c.args.draw c.args.slot.number _ _ e c.if-r-places.false t
-
-pub returns-then-r-places : goal.returns-then-r-places
-returns-then-r-places g c =
-    let n = c.args.self.now.cards in
-    let ps = g.L.Bytes.listed c.args.self.now.places in
-    let b = g.S.Shuffle.means c.args.self.now.below in
-    let e : c.find-r.result ≡ position (c.args.slot.number + 1) ps = c.find-r.ensures ∙ ap (λ (l : List ℕ). position c.number.result l) c.bytes-places.ensures ∙ ap (λ (x : ℕ). position x ps) (c.number.ensures ∙ c.place.ensures) in
-    stays n ps b (g.met.S.Shuffle.lawful c.args.self.now.below) (sym c.fits.ensures ∙ c.if-not-fits.false) c.args.draw c.args.slot.number _ e (subst (λ (l : List ℕ). length l ≤ c.find-r.result) c.bytes-places.ensures c.if-r-places.true)
-
-pub bounds-places-from : goal.bounds-places-from
-bounds-places-from g c = (landed g (goal.at.bounds-places-from g c).After-from).there
+    lands n ps b (g.met.S.Shuffle.lawful c.args.self.now.below) fit c.args.draw c.args.slot.number _ _ e c.in-Some.ensures.1 t
 
 pub at-requires-2 : goal.at-requires-2
 at-requires-2 g c = let h = landed g (goal.at.at-requires-2 g c).After-from in (h.low, h.high)

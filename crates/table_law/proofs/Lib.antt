@@ -1,0 +1,3 @@
+pub mod Unlaid
+pub mod Bounds
+pub mod Free

@@ -1,0 +1,3 @@
+pub mod Record
+pub mod Rows
+pub mod Refusals
