@@ -1,6 +1,9 @@
 pub mod Order
 pub mod Runs
 pub mod Totals
+pub mod Batches
+pub mod Holdings
+pub mod Asides
 pub mod Standing
 pub mod Fitted
 pub mod Draws

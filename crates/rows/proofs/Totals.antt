@@ -9,7 +9,7 @@ use Rattle.protocol.specs.States.{Row, weight, added, join, total_of, row_after,
 use Rattle.rows.specs.declared.row.Row as code
 use Rattle.rows.specs.Views.{row_view, rows_view}
 
-weight_added : (v w : List ℕ) (b : ℕ) → b < 8 → get_or (added v w) b 0 ≡ get_or v b 0 + get_or w b 0
+pub weight_added : (v w : List ℕ) (b : ℕ) → b < 8 → get_or (added v w) b 0 ≡ get_or v b 0 + get_or w b 0
 weight_added v w b l = get_or-map-range_with_len (λ (c : ℕ). get_or v c 0 + get_or w c 0) 0 8 b b 0 l (zero-add b)
 
 pub total_join : (b : ℕ) → b < 8 → (r : Row) (xs : List Row) → total_of b (join r xs) ≡ weight b r + total_of b xs

@@ -1,3 +1,4 @@
 pub mod Views
+pub mod Batches
 pub mod Turns
 pub mod Nodes

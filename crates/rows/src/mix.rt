@@ -6,10 +6,14 @@ ghost use Rattle.protocol.specs.Machine.{Protocol, Mixing, permuting, shuffling,
 ghost use Rattle.protocol.specs.States.{total_of, row_after, joined_after, mixed, Ascending};
 ghost use Rattle.rows.specs.Views.{row_view, rows_view, Sends, Small, Shuffles, Put};
 
+use crate::batch::{batch_start, make_way, put_aside, settle};
 use crate::join::join;
 use crate::row::Row;
 use crate::state::State;
 use shuffles::bank::Bank;
+
+// A run with fewer rows than this is short.
+const SHORT: usize = 512;
 
 // The row after its cards have moved, each from slot s to slot images[s]; it keeps its weights.
 fn moved(cards: u8, images: [u8; 12], row: &Row) -> Row
@@ -51,8 +55,8 @@ pub fn images_at<B: Bank>(
 }
 
 impl State<'_> {
-    // Joins the rows, each after its cards have moved, to the run of the first `len` rows of the room.
-    fn join_moved(&self, images: [u8; 12], room: &mut [Row], len: usize) -> Option<usize>
+    // Joins the rows, each after its cards have moved and each to its place, to the run of the first `len` rows of the room.
+    fn join_each(&self, images: [u8; 12], room: &mut [Row], len: usize) -> Option<usize>
         requires within { len ≤ length room.old }
         requires ascending { Ascending (rows_view (take len room.old)) }
         requires small { Small (λ b. total_of b (rows_view self.now.rows.now) + total_of b (rows_view (take len room.old))) }
@@ -65,6 +69,40 @@ impl State<'_> {
             len = join(room, len, &row)?;
         }
         Some(len)
+    }
+
+    // The same, with the rows that are new held back in batches behind the run.
+    fn join_batches(&self, images: [u8; 12], room: &mut [Row], len: usize) -> Option<usize>
+        requires within { len ≤ length room.old }
+        requires ascending { Ascending (rows_view (take len room.old)) }
+        requires small { Small (λ b. total_of b (rows_view self.now.rows.now) + total_of b (rows_view (take len room.old))) }
+        ensures put { (m : Mixing) (d : ℕ) → Sends images m d → Put result (joined_after self.now.cards m d (rows_view self.now.rows.now) (rows_view (take len room.old))) room.old room.new }
+        ensures totals { (end b : ℕ) → result ≡ Some end → b < 8 → total_of b (rows_view (take end room.new)) ≡ total_of b (rows_view self.now.rows.now) + total_of b (rows_view (take len room.old)) }
+    {
+        let mut end = len;
+        let mut len = batch_start(len);
+        for row in self.rows {
+            let row = moved(self.cards, images, row);
+            len = make_way(room, len, end);
+            end = put_aside(room, len, end, &row)?;
+        }
+        settle(&mut room[..end], len);
+        Some(end)
+    }
+
+    // The same, in the way that moves fewer rows: in a short run a row finds its place sooner than a batch does.
+    fn join_moved(&self, images: [u8; 12], room: &mut [Row], len: usize) -> Option<usize>
+        requires within { len ≤ length room.old }
+        requires ascending { Ascending (rows_view (take len room.old)) }
+        requires small { Small (λ b. total_of b (rows_view self.now.rows.now) + total_of b (rows_view (take len room.old))) }
+        ensures put { (m : Mixing) (d : ℕ) → Sends images m d → Put result (joined_after self.now.cards m d (rows_view self.now.rows.now) (rows_view (take len room.old))) room.old room.new }
+        ensures totals { (end b : ℕ) → result ≡ Some end → b < 8 → total_of b (rows_view (take end room.new)) ≡ total_of b (rows_view self.now.rows.now) + total_of b (rows_view (take len room.old)) }
+    {
+        if len.saturating_add(self.rows.len()) < SHORT {
+            self.join_each(images, room, len)
+        } else {
+            self.join_batches(images, room, len)
+        }
     }
 
     // The state after a permute: the card in slot s goes to slot images[s]. Its totals are those of the rows.

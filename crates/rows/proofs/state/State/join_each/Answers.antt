@@ -3,7 +3,7 @@ use Rattle.protocol.specs.States.{Row}
 use Rattle.rows.specs.declared.row.Row as code
 use Rattle.rows.specs.Views.{rows_view}
 use Rattle.rows.proofs.Standing.{standing_join, next_state, next_total, next_longer}
-use Rattle.rows.proofs.state.State.join_moved.Goals as goal
+use Rattle.rows.proofs.state.State.join_each.Goals as goal
 
 pub returns-in_err-len-clause-put : goal.returns-in_err-len-clause-put
 returns-in_err-len-clause-put c =

@@ -3,7 +3,7 @@ use Rattle.protocol.specs.Machine.{Mixing}
 use Rattle.protocol.specs.States.{total_of, joined_after}
 use Rattle.rows.specs.Views.{rows_view, Sends}
 use Rattle.rows.proofs.Standing.{Standing}
-use Rattle.rows.proofs.state.State.join_moved.Given as goal
+use Rattle.rows.proofs.state.State.join_each.Given as goal
 
 abbrev pub invariant-loop-row : goal.invariant-loop-row
 invariant-loop-row l =
