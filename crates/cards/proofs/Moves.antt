@@ -1,10 +1,12 @@
 -- A row of cards moved, packed and unpacked.
-use Rattle.std.proofs.Common.{◌≡◌, ℕ, zero, suc, ◌+◌, ◌-◌, ◌*◌, ◌/◌, ◌%◌, ◌^◌, ◌<◌, ◌≤◌, min, cond, ltb, ◌≢◌, ◌⊎◌, List, [], ◌∷◌, length, get_or, take, drop, set, replicate, sym, refl, ap, ◌∙◌, subst, ⊎_elim, add-zero, pow-suc, div-add-mod', zero-add, div-one, add-one, arith}
+use Rattle.std.proofs.Common.{◌≡◌, ℕ, zero, suc, ◌+◌, ◌-◌, ◌*◌, ◌/◌, ◌%◌, ◌^◌, ◌<◌, ◌≤◌, min, cond, ltb, ◌≢◌, ◌⊎◌, List, [], ◌∷◌, length, get_or, take, drop, set, replicate, sym, refl, ap, ◌∙◌, subst, ⊎_elim, add-zero, pow-suc, div-add-mod', zero-add, div-one, add-one, mul_assoc, arith}
 use native.Mathlib.Nat.{pow-le-pow_right, div-div-eq-div-mul, div-eq_of_lt}
 use Rattle.std.proofs.lemmas.Bool.{cases_lt, cases_eq, cond-true, cond-false, lt-ltb, le-ltb}
 use Rattle.std.proofs.lemmas.List.{at_drop_more, at_drop_all, length-set, set_past, get_or-set_same, get_or-set_other, take_all, get_or_past}
 use Rattle.std.proofs.lemmas.Int.Digits.{number_more, number_push}
-use Rattle.std.proofs.lemmas.Nat.{div-mul-add, mod-mul-add, mod_below, pow-add}
+use Rattle.std.proofs.lemmas.Nat.{div-mul-add, mod-mul-add, mod_below, pow-add, pow_pos}
+use Rattle.std.proofs.Math.Pow.{field, mod-mod-pow}
+use Rattle.std.proofs.Math.Nat.{mul-div_cancel, mul-mod_left}
 use Rattle.std.specs.Int.Digits.{number_from_digits}
 use Rattle.std.proofs.lemmas.List.FromFn.{get_or-map-range_with_len, length-map-range_with_len, fill_by_all, map-range_with_len_more, take-map-range_with_len}
 use Rattle.cards.specs.Lists.{table}
@@ -236,3 +238,32 @@ sixteens zero = refl
 sixteens (suc k) =
     let more : 2 ^ (4 * suc k) ≡ 2 ^ (4 * k) * 16 = ap (λ (n : ℕ). 2 ^ n) (let e : 4 * suc k ≡ 4 * k + 4 = omega arith in e) ∙ pow-add 2 (4 * k) 4 in
     more ∙ ap (λ (n : ℕ). n * 16) (sixteens k) ∙ sym (pow-suc 16 k)
+
+-- a digit of a number whose first digit was brought to the twelfth place
+pub aligned_digit : (x n s : ℕ) → n ≤ 12 → s < 12 → ((x * 2 ^ (4 * (12 - n))) % 18446744073709551616 / 2 ^ (4 * (11 - s))) % 16 ≡ cond (ltb s n) ((x / 16 ^ (n - 1 - s)) % 16) 0
+aligned_digit x n s hn hs =
+    let j : ℕ = 4 * (11 - s) in
+    let y : ℕ = x * 2 ^ (4 * (12 - n)) in
+    let low : (y % 18446744073709551616 / 2 ^ j) % 16 ≡ (y / 2 ^ j) % 16 =
+    ap (λ (k : ℕ). (y % 2 ^ k / 2 ^ j) % 16) (let e : 64 ≡ ((60 - j) + 4) + j = omega arith in e)
+    ∙ (ap (λ (k : ℕ). k % 16) (field y ((60 - j) + 4) j) ∙ mod-mod-pow (y / 2 ^ j) (60 - j) 4) in
+    ⊎_elim
+    (λ (lt : s < n).
+    let m : ℕ = 4 * (n - 1 - s) in
+    let k : ℕ = 4 * (12 - n) in
+    let parts : 2 ^ j ≡ 2 ^ k * 2 ^ m = ap (λ (i : ℕ). 2 ^ i) (let e : j ≡ k + m = omega arith in e) ∙ pow-add 2 k m in
+    low ∙ (ap (λ (i : ℕ). (y / i) % 16) parts
+    ∙ (ap (λ (i : ℕ). i % 16) (sym (div-div-eq-div-mul y (2 ^ k) (2 ^ m)))
+    ∙ (ap (λ (i : ℕ). (i / 2 ^ m) % 16) (mul-div_cancel x (pow_pos k))
+    ∙ (ap (λ (i : ℕ). (x / i) % 16) (sixteens (n - 1 - s)) ∙ sym (cond-true _ _ _ (lt-ltb s n lt))))))
+    )
+    (λ (ge : n ≤ s).
+    let r : ℕ = 4 * (s - n) in
+    let parts : 2 ^ (4 * (12 - n)) ≡ 2 ^ r * 16 * 2 ^ j =
+    ap (λ (i : ℕ). 2 ^ i) (let e : 4 * (12 - n) ≡ (r + 4) + j = omega arith in e) ∙ (pow-add 2 (r + 4) j ∙ ap (λ (i : ℕ). i * 2 ^ j) (pow-add 2 r 4)) in
+    let whole : y ≡ x * 2 ^ r * 16 * 2 ^ j = ap (λ (i : ℕ). x * i) parts ∙ (sym (mul_assoc x (2 ^ r * 16) (2 ^ j)) ∙ ap (λ (i : ℕ). i * 2 ^ j) (sym (mul_assoc x (2 ^ r) 16))) in
+    low ∙ (ap (λ (i : ℕ). (i / 2 ^ j) % 16) whole
+    ∙ (ap (λ (i : ℕ). i % 16) (mul-div_cancel (x * 2 ^ r * 16) (pow_pos j))
+    ∙ (mul-mod_left (x * 2 ^ r) 16 ∙ sym (cond-false _ _ _ (le-ltb s n ge)))))
+    )
+    (cases_lt s n)

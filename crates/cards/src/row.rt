@@ -11,7 +11,7 @@ pub struct Row {
 }
 
 // The digit of base 16 in the slot, of so many digits; past them 0.
-fn digit(number: u64, digits: usize, slot: usize) -> u8
+pub fn digit(number: u64, digits: usize, slot: usize) -> u8
     requires { digits ≤ 12 }
     ensures { result ≡ (if nat_lt slot digits then (number / 16 ^ (digits - 1 - slot)) % 16 else 0) }
 {
@@ -27,7 +27,9 @@ fn digits(number: u64, digits: usize) -> [u8; 12]
     requires { digits ≤ 12 }
     ensures { result ≡ unpacked digits number }
 {
-    array::from_fn(|s| digit(number, digits, s))
+    // The first of them goes to the twelfth place, so that each is taken by a shift that is known.
+    let aligned = number << (4 * (12 - digits));
+    array::from_fn(|s| ((aligned >> (4 * (11 - s))) % 16) as u8)
 }
 
 impl Row {

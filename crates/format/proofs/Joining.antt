@@ -1,5 +1,5 @@
 -- How the parts of a frame join up: as far as the bytes have been read, the frame's fault is that of the rest.
-use Rattle.std.proofs.Common.{◌≡◌, ℕ, suc, ◌+◌, ◌-◌, ◌<◌, ◌≤◌, Bool, true, false, List, length, None, refl, ap, ◌∙◌, arith}
+use Rattle.std.proofs.Common.{◌≡◌, ℕ, suc, ◌+◌, ◌-◌, ◌<◌, Bool, true, false, List, length, None, refl, ap, ◌∙◌, arith}
 use Rattle.format.specs.Form.{Form, byte, wrong}
 use Rattle.format.specs.Taking.{Next, NoNext, Passed, Broken, Faulty, FaultyFrom}
 use Rattle.format.specs.declared.cursor.Cursor.{Cursor}

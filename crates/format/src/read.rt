@@ -10,18 +10,10 @@ ghost use Rattle.format.specs.Views.{Read, PiledRead, FrameRead};
 use crate::cursor::Cursor;
 use crate::frame::{Frame, Piled};
 use crate::parts::Turning;
-use crate::rule::{Ascending, Codes, Distinct};
+use crate::rule::{Ascending, Codes, Distinct, function_fits};
 use heads::fault::SheetFault;
 use heads::head::{DeckKind, Head, Output};
 use heads::kind::Kind;
-
-// Whether the byte is below 2^(2^k) for k players: a function of k bits.
-fn function_fits(players: u8, b: u8) -> bool
-    requires { players ≤ 3 }
-    ensures { result ≡ nat_lt b (2 ^ 2 ^ players) }
-{
-    u16::from(b) < 1 << (1u32 << players)
-}
 
 // Whether so many slots may stand after so many piles.
 fn slots_fit(cards: u8, piles: u8, slots: u8) -> bool

@@ -1,10 +1,12 @@
 // Rules for the next byte of a list, over those before it.
-ghost use Rattle.std.specs.Prelude.{◌≡◌, ℕ, Bool, List, [], ◌∷◌, ◌++◌};
+ghost use Rattle.std.specs.Prelude.{◌≡◌, ℕ, ◌^◌, Bool, List, [], ◌∷◌, ◌++◌, nat_lt};
 ghost use Rattle.heads.specs.Heads.{deck_meaning};
-ghost use Rattle.format.specs.Kinds.{distinct_rule, ascending_rule, code_rule, mark_rule, precedes};
+ghost use Rattle.format.specs.Kinds.{distinct_rule, ascending_rule, code_rule, mark_rule, precedes, head_rule};
 
 use cards::deck::Deck;
 use heads::head::DeckKind;
+use heads::kind::Kind;
+use shuffles::lists::stands;
 
 // A rule for the next byte of a list, over those before it.
 // A trait and no closure: what a rule means stands once, at its impl, and not at each list that is read by it.
@@ -26,7 +28,7 @@ impl Rule for Distinct {
     ghost test = { λ r. distinct_rule r.low r.high };
 
     fn passes(&self, before: &[u8], b: u8) -> bool {
-        (self.low..=self.high).contains(&b) && !before.contains(&b)
+        (self.low..=self.high).contains(&b) && !stands(b, before)
     }
 }
 
@@ -56,7 +58,7 @@ impl Rule for Codes {
 
     fn passes(&self, before: &[u8], b: u8) -> bool {
         self.deck.may_lie(self.players, b)
-            && (self.deck.may_repeat(self.players, b) || !before.contains(&b))
+            && (self.deck.may_repeat(self.players, b) || !stands(b, before))
     }
 }
 
@@ -87,5 +89,31 @@ impl<'a> Rule for Marks<'a> {
     fn passes(&self, before: &[u8], b: u8) -> bool {
         (self.deck.lowest_mark()..=self.deck.highest_mark()).contains(&b)
             && (before.len() + 1 < self.count || stands_before(self.previous, before, b))
+    }
+}
+
+// Whether the byte is below 2^(2^k) for k players: a function of k bits. Any byte is for three or more.
+pub(crate) fn function_fits(players: u8, b: u8) -> bool
+    ensures { result ≡ nat_lt b (2 ^ 2 ^ players) }
+{
+    players >= 3 || u16::from(b) < 1 << (1u32 << players)
+}
+
+// The bytes of a head, each by its index and those before it.
+#[derive(Clone, Copy)]
+pub struct HeadBytes {}
+
+impl Rule for HeadBytes {
+    ghost test = { λ _. head_rule };
+
+    fn passes(&self, before: &[u8], b: u8) -> bool {
+        match before {
+            [] => b == Kind::Head.byte(),
+            [_] => b <= 1,
+            [_, _] => (2..=12).contains(&b),
+            [_, _, cards] => (1..=3).contains(&b) && 2 * b <= *cards,
+            [_, _, _, players] => function_fits(*players, b),
+            _ => b <= 1,
+        }
     }
 }

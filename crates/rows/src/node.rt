@@ -7,7 +7,6 @@ ghost use Rattle.rows.specs.Views.{row_view, rows_view, Small};
 ghost use Rattle.rows.specs.Nodes.{action_of, output_of, wrong_view, first_stray, Computes};
 
 use crate::join::add;
-use crate::marks::card_at;
 use crate::outcome::{Outcome, Wrong};
 use crate::row::Row;
 use cards::deck::{Deck, bit_of};
@@ -62,8 +61,7 @@ fn reading<D: Deck>(deck: &D, cards: u8, outcome: Outcome, row: &Row) -> Reading
 {
     match outcome {
         Outcome::Committed { left, right } => {
-            let cards = row.cards(cards).cards;
-            deck.read(card_at(cards, left), card_at(cards, right))
+            deck.read(row.card(cards, left), row.card(cards, right))
         }
         Outcome::Opened { value } => Reading::of_bit(value),
     }

@@ -1,9 +1,11 @@
 // A row of a state.
 ghost use Rattle.std.specs.Prelude.{◌≡◌, ◌≤◌};
+ghost use Rattle.protocol.specs.Machine.{card_at};
 ghost use Rattle.protocol.specs.States.{cards_of};
 ghost use Rattle.rows.specs.Views.{row_view, zero_row};
 
-use cards::row::Row as Cards;
+use cards::place::Place;
+use cards::row::{Row as Cards, digit};
 
 // The sequence number of a row of cards, and a weight for each of the eight inputs: nine 64-bit numbers.
 #[derive(Clone, Copy)]
@@ -29,5 +31,16 @@ impl Row {
         ensures { result.cards ≡ cards_of number (row_view self.now) }
     {
         Cards::unpack(number, self.sequence)
+    }
+    // The card at a place, in a state of so many cards. It is read alone: no other card is unpacked.
+    pub fn card(&self, number: u8, place: Place) -> u8
+        requires { number ≤ 12 }
+        ensures { result ≡ card_at (cards_of number (row_view self.now)) place.number }
+    {
+        digit(
+            self.sequence,
+            usize::from(number),
+            usize::from(place.slot().number()),
+        )
     }
 }

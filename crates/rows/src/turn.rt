@@ -6,9 +6,10 @@ ghost use Rattle.rows.specs.Views.{row_view, rows_view, Put};
 ghost use Rattle.rows.specs.Turns.{follows, leads, rows_after, Next};
 ghost use Rattle.std.proofs.Props.{props};
 
-use crate::marks::{before, marks_at};
+use crate::marks::before;
 use crate::row::Row;
 use crate::state::State;
+use cards::place::Place;
 
 // Whether marks of so many places come after the last ones; any do where there are none.
 fn comes_after(last: Option<[u8; 12]>, marks: [u8; 12], places: usize) -> bool
@@ -48,7 +49,11 @@ impl Turned<'_> {
         ensures shown { take (length self.now.places.now) result ≡ shows self.now.state.cards self.now.places.now (row_view row.now) }
         ensures past { drop (length self.now.places.now) result ≡ replicate (12 - length self.now.places.now) 0 }
     {
-        marks_at(row.cards(self.state.cards).cards, self.places)
+        let mut marks = [0u8; 12];
+        for (i, place) in self.places.iter().enumerate() {
+            marks[i] = row.card(self.state.cards, Place::at(*place));
+        }
+        marks
     }
 
     // The marks of the next child: the least above the last ones, or the least of all where there are none. None where

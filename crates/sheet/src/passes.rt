@@ -4,6 +4,8 @@ ghost use Rattle.heads.specs.Faults.{shown};
 ghost use Rattle.heads.specs.Kinds.{kind_byte};
 ghost use Rattle.sheet.specs.Counting.{Counted, Outcome, FramesRead};
 ghost use Rattle.sheet.specs.First.{first};
+ghost use Rattle.sheet.specs.Lines.{line_count};
+ghost use Rattle.sheet.specs.Scripts.{head as head_in};
 ghost use Rattle.sheet.specs.Verdicts.{missing_code, layout_fault, line_fault, is_result, kind_at, differs, result_fault, last_fault};
 
 use crate::lines::frame_at;
@@ -46,44 +48,61 @@ pub fn check_frames(bytes: &[u8], lines: u8) -> Result<Head, SheetFault>
     Ok(head)
 }
 
+// The kind of the result at a line, none where the line is no result.
+fn result_at(bytes: &[u8], line: u8) -> Option<Kind>
+    ensures { MatchOption result (is_result (kind_at bytes.now line) ≡ false) (λ k. (is_result (kind_at bytes.now line) ≡ true) × (kind_byte k ≡ kind_at bytes.now line)) }
+{
+    match Kind::try_from(*frame_at(bytes, line).first()?) {
+        Ok(kind @ (Kind::Committed | Kind::Open)) => Some(kind),
+        Ok(_) => None,
+        Err(_) => None,
+    }
+}
+
+// Whether the line is a result of another kind than the head's output asks for.
+fn differs(bytes: &[u8], head: &Head, line: u8) -> bool
+    requires { head.now ≡ head_in bytes.now }
+    ensures { result ≡ differs bytes.now line }
+{
+    let wanted = Kind::from(head.output);
+    result_at(bytes, line).is_some_and(|kind| kind != wanted)
+}
+
+// Each result has the kind that the head's output asks for.
+pub fn check_results(bytes: &[u8], lines: u8, head: &Head) -> Result<(), SheetFault>
+    requires { head.now ≡ head_in bytes.now }
+    ensures { Outcome result (first lines (result_fault bytes.now)) }
+{
+    match (0..lines).find(|line| differs(bytes, head, *line)) {
+        Some(line) => Err(SheetFault::ResultKind { line }),
+        None => Ok(()),
+    }
+}
+
+// The last line is a result.
+pub fn check_last(bytes: &[u8], lines: u8) -> Result<(), SheetFault>
+    requires { (lines ≡ line_count bytes.now) × (1 ≤ lines) }
+    ensures { Outcome result (last_fault bytes.now) }
+{
+    let line = lines - 1;
+    match result_at(bytes, line) {
+        Some(_) => Ok(()),
+        None => Err(SheetFault::LastLine { line }),
+    }
+}
+
 impl ReadSheet<'_> {
-    // The kind of the result at a line, none where the line is no result.
-    fn result_at(&self, line: u8) -> Option<Kind>
-        ensures { MatchOption result (is_result (kind_at self.now.bytes.now line) ≡ false) (λ k. (is_result (kind_at self.now.bytes.now line) ≡ true) × (kind_byte k ≡ kind_at self.now.bytes.now line)) }
-    {
-        match Kind::try_from(*frame_at(self.bytes, line).first()?) {
-            Ok(kind @ (Kind::Committed | Kind::Open)) => Some(kind),
-            Ok(_) => None,
-            Err(_) => None,
-        }
-    }
-
-    // Whether the line is a result of another kind than the head's output asks for.
-    fn differs(&self, line: u8) -> bool
-        ensures { result ≡ differs self.now.bytes.now line }
-    {
-        let wanted = Kind::from(self.head.output);
-        self.result_at(line).is_some_and(|kind| kind != wanted)
-    }
-
     // Each result has the kind that the head's output asks for.
     pub fn check_results(&self) -> Result<(), SheetFault>
         ensures { Outcome result (first self.now.lines (result_fault self.now.bytes.now)) }
     {
-        match (0..self.lines).find(|line| self.differs(*line)) {
-            Some(line) => Err(SheetFault::ResultKind { line }),
-            None => Ok(()),
-        }
+        check_results(self.bytes, self.lines, &self.head)
     }
 
     // The last line is a result.
     pub fn check_last(&self) -> Result<(), SheetFault>
         ensures { Outcome result (last_fault self.now.bytes.now) }
     {
-        let line = self.lines - 1;
-        match self.result_at(line) {
-            Some(_) => Ok(()),
-            None => Err(SheetFault::LastLine { line }),
-        }
+        check_last(self.bytes, self.lines)
     }
 }

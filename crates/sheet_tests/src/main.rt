@@ -9,8 +9,8 @@ use sheet::states::Sheet;
 use sheet_text::{TextFault, add_line, frame_bytes};
 use std::alloc::Global;
 
-// What a refusal names.
-#[derive(Clone, Copy, PartialEq, Eq, Debug)]
+// What a refusal names; all zeros where the sheet passes.
+#[derive(Clone, Copy, Default, PartialEq, Eq, Debug)]
 struct Answer {
     number: u8,
     line: u8,
@@ -82,6 +82,7 @@ fn main(rt: HostRuntime) -> anyhow::Result<()> {
                     agree = agree.saturating_add(1);
                 } else {
                     differ = differ.saturating_add(1);
+                    let found = found.err().unwrap_or_default();
                     println!(rt; "{text}: found {found:?}")?;
                 }
             }

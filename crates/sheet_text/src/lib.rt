@@ -36,17 +36,20 @@ pub fn frame_bytes(heap: Global, text: &[u8]) -> Result<Vec<u8>, TextFault> {
         .iter()
         .take_while(|c| **c != b'#')
         .filter(|c| !matches!(**c, b' ' | b'\t' | b'\r'))
-        .map(|c| digit(*c).ok_or(TextFault::Character))
-        .try_collect::<Vec<u8>>(heap)?;
-    let (pairs, rest) = digits.as_slice().as_chunks::<2>();
-    if !rest.is_empty() {
-        return Err(TextFault::HalfByte);
+        .map(|c| digit(*c).ok_or(TextFault::Character));
+    let mut bytes = Vec::new(heap);
+    let mut high = None;
+    for low in digits {
+        let low = low?;
+        match high.take() {
+            None => high = Some(low),
+            Some(high) => bytes.push(high << 4 | low)?,
+        }
     }
-    let bytes = pairs
-        .iter()
-        .map(|[high, low]| high << 4 | low)
-        .collect(heap)?;
-    Ok(bytes)
+    match high {
+        None => Ok(bytes),
+        Some(_) => Err(TextFault::HalfByte),
+    }
 }
 
 // Adds a frame to a sheet: its length byte and its bytes. A line without digits adds nothing.

@@ -13,7 +13,7 @@ pub fn find(number: u8, list: &[u8]) -> Option<usize>
 pub fn stands(number: u8, list: &[u8]) -> bool
     ensures { result ≡ member number list.now }
 {
-    list.contains(&number)
+    find(number, list).is_some()
 }
 
 // Whether each number of the list lies from `low` to `high`, and none stands twice.
